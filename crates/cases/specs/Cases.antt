@@ -1,0 +1,134 @@
+-- K1 to K9 and F1 to F4, as one table under a single claim.
+use mathlib.Core.Path.{_≡_, refl, ap₂}
+use mathlib.Core.Bool.{Bool, true, false, _&&_, false≢true}
+use mathlib.Core.List.{List, [], _∷_, map, flatMap, List·Memᴰ, List·Memᴰ·head, List·Memᴰ·tail}
+use Prim.Native.Nat.{ℕ, _+_, _-_}
+use borrow.Author.Tests.{eqb-true}
+use lib.Dec.{eqb}
+use lib.ListN.{length, replicate}
+use Rattle.analysis.specs.Analysis.{analysis}
+use Rattle.elimination.specs.Plan.{plan, workOf}
+use Rattle.form.specs.Numbers.{bytesOf}
+use Rattle.form.specs.Refusals.{Answer, refused, accepted}
+use Rattle.laws.specs.Tests.{both-true}
+use Rattle.links.specs.Lists.{upTo, vertices}
+use Rattle.links.specs.Links.{Graph, Step, order, steps}
+use Rattle.links.specs.Switches.{linksOf, joinsOf}
+use Rattle.network.specs.Network.{edition}
+use Rattle.network.specs.declared.Switch.{Switch}
+use Rattle.sheet.specs.Asks.{work}
+use Rattle.analysis.specs.Wiring as wiring
+use Rattle.analysis.specs.Result as result
+use Rattle.analysis.specs.Analysis as whole
+use Rattle.elimination.specs.Plan as plans
+use Rattle.form.specs.Numbers as numbers
+use Rattle.formula.specs.Givens as givens
+use Rattle.formula.specs.Make as making
+use Rattle.links.specs.Switches as switches
+use Rattle.network.specs.Faults as faults
+use Rattle.network.specs.Network as networks
+use Rattle.sheet.specs.Asks as asks
+use Rattle.sheet.specs.Perform as sheets
+
+-- A switch with both labels 0, which links its ends all the same.
+abbrev pub bare : ℕ → ℕ → Switch
+bare u v = record { first = u; second = v; there = 0; back = 0 }
+
+-- All of n vertices linked.
+abbrev pub allLinked : Graph
+allLinked u v = true
+
+-- Four in a ring.
+abbrev pub ring : List Switch
+ring = bare 0 1 ∷ bare 1 2 ∷ bare 2 3 ∷ bare 3 0 ∷ []
+
+-- A star, centre 0, leaves 1 to 5.
+abbrev pub star : List Switch
+star = map (bare 0) (upTo 5 1)
+
+-- Two switches between 0 and 1.
+abbrev pub double : List Switch
+double = bare 0 1 ∷ bare 0 1 ∷ []
+
+-- The degrees of an elimination.
+abbrev pub degrees : ℕ → Graph → List ℕ
+degrees n g = map (λ (s : Step). s .degree) (steps g (vertices n) (order n g))
+
+-- A refusal's number and place, or the number of bytes of a result.
+abbrev pub outcome : Answer (List ℕ) → List ℕ
+outcome (refused number place) = number ∷ place ∷ []
+outcome (accepted bytes) = length bytes ∷ []
+
+-- What the definitions give, beside what the outline says.
+abbrev pub table : List (List ℕ × List ℕ)
+table =
+    -- K1 no vertices: 0
+    (workOf 0 allLinked ∷ [], 0 ∷ [])
+    -- K2 one vertex: 0
+    ∷ (workOf 1 allLinked ∷ [], 0 ∷ [])
+    -- K3 triangle: 16
+    ∷ (workOf 3 allLinked ∷ [], 16 ∷ [])
+    -- K4 four in a ring: 26
+    ∷ (workOf 4 (linksOf ring) ∷ [], 26 ∷ [])
+    -- K5 all four linked: 40, first degree 3
+    ∷ (workOf 4 allLinked ∷ degrees 4 allLinked, 40 ∷ 3 ∷ 2 ∷ 1 ∷ 0 ∷ [])
+    -- K6 star, centre 0, leaves 1 to 5: 20
+    ∷ (workOf 6 (linksOf star) ∷ [], 20 ∷ [])
+    -- K7 the same with the centre forced first: 120
+    ∷ (work (plan (linksOf star) (vertices 6) (vertices 6)) ∷ [], 120 ∷ [])
+    -- K8 24 vertices all linked: 9,200
+    ∷ (workOf 24 allLinked ∷ [], 9200 ∷ [])
+    -- K9 two switches between 0 and 1: joins 2, work 4
+    ∷ (joinsOf double ∷ workOf 2 (linksOf double) ∷ [], 2 ∷ 4 ∷ [])
+    -- F1 empty input: 1 at 0
+    ∷ (outcome (analysis edition [] 65536), 1 ∷ 0 ∷ [])
+    -- F2 eight zero bytes: accepted, 16-byte room; one byte less gives 9
+    ∷ (outcome (analysis edition (replicate 8 0) 16), 16 ∷ [])
+    ∷ (outcome (analysis edition (replicate 8 0) 15), 9 ∷ 0 ∷ [])
+    -- F3 nine zero bytes: 7 at 8
+    ∷ (outcome (analysis edition (replicate 9 0) 65536), 7 ∷ 8 ∷ [])
+    -- F4 first count 201: 2 at 0
+    ∷ (outcome (analysis edition (bytesOf (201 ∷ [])) 65536), 2 ∷ 0 ∷ [])
+    ∷ []
+
+-- Two lists of numbers are the same; the two sides of every row are.
+abbrev same : List ℕ → List ℕ → Bool
+same [] [] = true
+same [] (y ∷ ys) = false
+same (x ∷ xs) [] = false
+same (x ∷ xs) (y ∷ ys) = eqb x y && same xs ys
+
+abbrev holds : List (List ℕ × List ℕ) → Bool
+holds [] = true
+holds (row ∷ rows) = same (row .0) (row .1) && holds rows
+
+-- What these tests say.
+same-lists : (xs ys : List ℕ) → same xs ys ≡ true → xs ≡ ys
+same-lists [] [] e = refl
+same-lists [] (y ∷ ys) e = absurd (false≢true e)
+same-lists (x ∷ xs) [] e = absurd (false≢true e)
+same-lists (x ∷ xs) (y ∷ ys) e =
+    let h = both-true (eqb x y) (same xs ys) e in
+    ap₂ _∷_ (eqb-true x y (h .0)) (same-lists xs ys (h .1))
+
+row-holds : (rows : List (List ℕ × List ℕ)) → holds rows ≡ true → {row : List ℕ × List ℕ} → List·Memᴰ row rows → row .0 ≡ row .1
+row-holds (r ∷ rows) e (List·Memᴰ·head q) = rw q (same-lists (r .0) (r .1) (both-true (same (r .0) (r .1)) (holds rows) e .0))
+row-holds (r ∷ rows) e (List·Memᴰ·tail m) = row-holds rows (both-true (same (r .0) (r .1)) (holds rows) e .1) m
+
+-- The claim: in every row of the table the definitions give what the outline says.
+pub table-holds : {row : List ℕ × List ℕ} → List·Memᴰ row table → row .0 ≡ row .1
+unfolding
+    flatMap
+    numbers.wordAt numbers.bytesOf
+    networks.entriesOf networks.networkOf
+    faults.cutFault faults.countFault faults.coilFault faults.kindFault faults.referenceFault faults.endFault faults.trailingFault faults.secondBelow faults.givenFault faults.vertexFault faults.switchFault faults.entriesFault faults.sectionFault faults.networkFault
+    making.indexOf making.named making.enter making.negate making.combine making.make
+    givens.translate givens.passOne givens.pass
+    switches.link switches.joinsAt switches.linksFrom switches.joinsFrom switches.linksOf switches.joinsOf
+    asks.sameCell asks.work
+    sheets.setCell sheets.put sheets.andThen sheets.product sheets.asked sheets.perform
+    plans.forward plans.backward plans.plan
+    wiring.passed wiring.translated wiring.starting wiring.setOrJoin wiring.wire wiring.wireAll wiring.wired
+    result.eliminated result.resultNumbers result.resultOf
+    whole.operations whole.roomFor whole.operationsFault whole.roomFault whole.analysisFault whole.analysis
+table-holds m = row-holds table refl m

@@ -1,0 +1,1 @@
+// The worked cases of the outline, proved about the definitions. (In specs/.)

@@ -1,0 +1,1 @@
+// The direct answer for one setting. (Definitions in specs/.)

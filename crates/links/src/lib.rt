@@ -1,0 +1,1 @@
+// What an elimination costs: bare links, rule M's order, degrees and joins. (Definitions in specs/.)

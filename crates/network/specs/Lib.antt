@@ -1,0 +1,2 @@
+pub mod Network
+pub mod Faults

@@ -1,0 +1,17 @@
+// What a wiring file says: variables, given formulas, vertices and switches.
+
+// The most entries that each section may have.
+pub struct Limits {
+    pub variables: usize,
+    pub givens: usize,
+    pub vertices: usize,
+    pub switches: usize,
+}
+
+// A switch: its ends, its label from the first end to the second, and its label back.
+pub struct Switch {
+    pub first: u16,
+    pub second: u16,
+    pub there: u16,
+    pub back: u16,
+}

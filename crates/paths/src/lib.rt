@@ -1,0 +1,1 @@
+// What "joined to a live source" means. (Definitions in specs/.)
