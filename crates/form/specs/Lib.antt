@@ -1,3 +1,4 @@
 pub mod Numbers
 pub mod References
 pub mod Refusals
+pub mod Verdicts

@@ -1,8 +1,73 @@
-// What every file is made of: 16-bit numbers, references and formulas.
+// What every file is made of: 16-bit numbers, references and formulas; and how a call is refused.
+ghost use mathlib.Core.Path.{_≡_};
+ghost use Prim.Native.Nat.{_+_, _<_, _≤_};
+ghost use lib.ListN.{length};
+ghost use Rattle.form.specs.Numbers.{wordAt};
+ghost use Rattle.form.specs.References.{variable};
 
 // A formula: its kind is 1 for and, 2 for or, 3 for not, and its arguments are references. A given formula and a record have this form.
 pub struct Record {
     pub kind: u16,
     pub first: u16,
     pub second: u16,
+}
+
+// A reference: a constant, a variable, or a given formula or record.
+pub struct Reference {
+    pub number: u16,
+}
+
+impl Reference {
+    // Constant false.
+    pub const FALSE: Reference = Reference { number: 0 };
+
+    // Constant true.
+    pub const TRUE: Reference = Reference { number: 1 };
+
+    // Variable i; with p variables, given formula or record k is at p + k.
+    pub fn of(index: usize) -> Reference
+        requires { ⌜ variable index < 65536 ⌝ }
+        ensures { λ r. ⌜ r .number ≡ variable index ⌝ }
+    {
+        Reference {
+            number: (2 + index) as u16,
+        }
+    }
+}
+
+// What is wrong, by the refusals' numbers from 1 to 12, with its place where that is not always 0.
+pub enum Fault {
+    Cut(usize),
+    Count(usize),
+    Coil(usize),
+    Kind(usize),
+    Reference(usize),
+    End(usize),
+    Trailing(usize),
+    Work,
+    ResultRoom,
+    SettingLength,
+    SettingByte(usize),
+    AnswerRoom,
+}
+
+// The answer to a call that fills a lent buffer: how much it has written, or why it has written nothing.
+pub enum Reply {
+    Accepted(usize),
+    Refused(Fault),
+}
+
+// A byte as a 16-bit number.
+fn wide(b: u8) -> u16
+    ensures { λ r. ⌜ (r ≡ b) × (r < 256) ⌝ }
+{
+    b as u16
+}
+
+// The number at a place.
+pub fn word(s: &[u8], at: usize) -> u16
+    requires { ⌜ at + 2 ≤ length (now s) ⌝ }
+    ensures { λ r. ⌜ r ≡ wordAt (now (s .entry)) at ⌝ }
+{
+    wide(s[at]) + 256 * wide(s[at + 1])
 }

@@ -15,3 +15,14 @@ pub struct Switch {
     pub there: u16,
     pub back: u16,
 }
+
+// The counts of an accepted file, and the places of the counts after the first.
+pub struct Sections {
+    pub variables: usize,
+    pub givens: usize,
+    pub vertices: usize,
+    pub switches: usize,
+    pub givens_at: usize,
+    pub vertices_at: usize,
+    pub switches_at: usize,
+}
