@@ -27,6 +27,7 @@ use Rattle.formula.specs.Make as making
 use Rattle.links.specs.Switches as switches
 use Rattle.network.specs.Faults as faults
 use Rattle.network.specs.Network as networks
+use Rattle.plan.specs.Measure as measures
 use Rattle.sheet.specs.Asks as asks
 use Rattle.sheet.specs.Perform as sheets
 
@@ -130,5 +131,5 @@ unfolding
     plans.forward plans.backward plans.plan
     wiring.passed wiring.translated wiring.starting wiring.setOrJoin wiring.wire wiring.wireAll wiring.wired
     result.eliminated result.resultNumbers result.resultOf
-    whole.operations whole.roomFor whole.operationsFault whole.roomFault whole.analysisFault whole.analysis
+    measures.operations measures.roomFor measures.operationsFault measures.roomFault whole.analysisFault whole.analysis
 table-holds m = row-holds table refl m

@@ -1,8 +1,21 @@
 -- What tests say.
 use mathlib.Core.Path.{_≡_, refl}
+use mathlib.Core.Logic.{_≢_}
 use mathlib.Core.Bool.{Bool, true, false, _&&_, false≢true}
+use Prim.Native.Nat.{ℕ}
+use borrow.Author.Tests.{eqb-true, eqb-false}
+use lib.Dec.{eqb}
 
 -- A test of two parts that passed.
 pub both-true : (a b : Bool) → a && b ≡ true → (a ≡ true) × (b ≡ true)
 both-true true b e = (refl, e)
 both-true false b e = absurd (false≢true e)
+
+-- The two outcomes of a test, each with its equation.
+pub byTest : {A : Type 0} (b : Bool) → (b ≡ true → A) → (b ≡ false → A) → A
+byTest true holds fails = holds refl
+byTest false holds fails = fails refl
+
+-- Two numbers are the same, or they are not.
+pub bySame : {A : Type 0} (u v : ℕ) → (u ≡ v → A) → (u ≢ v → A) → A
+bySame u v holds fails = byTest (eqb u v) (λ t. holds (eqb-true u v t)) (λ t. fails (eqb-false u v t))

@@ -1,3 +1,6 @@
 pub mod Lists
 pub mod Links
 pub mod Switches
+pub mod ListLaws
+pub mod Sums
+pub mod OrderLaws

@@ -10,6 +10,10 @@ use Rattle.network.specs.declared.Switch.{Switch}
 abbrev pub edition : Limits
 edition = record { variables = 200; givens = 500; vertices = 24; switches = 400 }
 
+-- The width of the tables by vertex.
+abbrev pub side : ℕ
+side = edition .vertices
+
 -- The bytes of an entry of each section.
 abbrev pub variableSize : ℕ
 variableSize = 2
