@@ -1,1 +1,5 @@
 pub mod Direct
+pub mod Marks
+pub mod Sweep
+pub mod Solve
+pub mod Promise

@@ -1,6 +1,9 @@
--- Numbers in bytes.
+-- Numbers and truths in bytes.
+use mathlib.Core.Path.{_≡_, refl}
+use mathlib.Core.Bool.{Bool, true, false, cond}
 use mathlib.Core.List.{List, [], _∷_}
 use Prim.Native.Nat.{ℕ, _+_, _*_, _/_, _%_}
+use lib.Dec.{eqb}
 use lib.ListN.{getD}
 
 -- All numbers are 16 bits, low byte first: the number at a place of a byte string.
@@ -11,3 +14,12 @@ wordAt s at = getD s at 0 + 256 * getD s (at + 1) 0
 unfoldable pub bytesOf : List ℕ → List ℕ
 bytesOf [] = []
 bytesOf (n ∷ ns) = n % 256 ∷ n / 256 ∷ bytesOf ns
+
+-- A truth is written as 1 or 0.
+abbrev pub bitOf : Bool → ℕ
+bitOf b = cond b 1 0
+
+-- It is read back by a test for 1.
+pub bit-back : (b : Bool) → eqb (bitOf b) 1 ≡ b
+bit-back true = refl
+bit-back false = refl

@@ -1,3 +1,4 @@
 pub mod Make
 pub mod Givens
 pub mod Worth
+pub mod WorthLaws

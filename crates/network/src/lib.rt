@@ -1,5 +1,8 @@
 // What a wiring file says: variables, given formulas, vertices and switches.
 
+// The width of the tables by vertex.
+pub const SIDE: usize = 24;
+
 // The most entries that each section may have.
 pub struct Limits {
     pub variables: usize,

@@ -9,13 +9,10 @@ use lib.Dec.{eqb, ltb}
 use lib.ListN.{length, getD, set, length-set}
 use lib.Seq.{getD-set-same, getD-set-other}
 use Rattle.laws.specs.Tests.{byTest, bySame}
+use Rattle.form.specs.Numbers.{bitOf, bit-back}
 use Rattle.links.specs.Links.{gone}
 use Rattle.network.specs.Network.{side}
 use Rattle.plan.specs.Matrix.{linksIn, linked-is, is-linked, not-linked, beyond-row, beyond-column}
-
--- The byte for yes or no.
-abbrev pub bitOf : Bool → ℕ
-bitOf b = cond b 1 0
 
 -- Whether u and v are linked once p is eliminated.
 unfoldable pub joinedBy : List ℕ → ℕ → ℕ → ℕ → ℕ
@@ -45,10 +42,6 @@ pub record Going (old : List ℕ) (p : ℕ) (links : List ℕ) (k : ℕ) : Type 
   pub within : k ≤ side * side
   pub long : length links ≡ side * side
   pub done : (j : ℕ) → j < k → getD links j 0 ≡ joinedBy old p (j / side) (j % side)
-
-bit-back : (b : Bool) → eqb (bitOf b) 1 ≡ b
-bit-back true = refl
-bit-back false = refl
 
 module _ (old : List ℕ) (p : ℕ) where
   pub going-none : (links : List ℕ) → length links ≡ side * side → Going old p links 0

@@ -9,6 +9,7 @@ use borrow.Author.Tests.{lt-ltb, le-ltb, eq-eqb, ne-eqb, ltb-true, ltb-false}
 use lib.Dec.{eqb, ltb}
 use lib.ListN.{length, getD, set, replicate, getD-replicate, List·getD-eq-default}
 use lib.Seq.{getD-set-same, getD-set-other}
+use Rattle.laws.specs.Places.{at-zeros}
 use Rattle.laws.specs.Tests.{byTest, bySame}
 use Rattle.links.specs.Lists.{keep, without, vertices}
 use Rattle.links.specs.Links.{Graph, beside, neighbours}
@@ -99,15 +100,6 @@ unfolding remaining
 remaining-up n rest = ascending-keep (remains rest) (vertices n) (upTo-ascending n 0)
 
 -- A table of zeros links nothing.
-abbrev zeros : List ℕ
-zeros = replicate (side * side) 0
-
-at-zeros : (i : ℕ) → getD zeros i 0 ≡ 0
-at-zeros i =
-    byTest (ltb i (side * side))
-    (λ t. getD-replicate (side * side) i 0 0 (ltb-true i (side * side) t))
-    (λ t. List·getD-eq-default zeros 0 {n = i} (omega (arith, ltb-false i (side * side) t)))
-
-pub none-linked : linksIn zeros ≡ noLinks
+pub none-linked : linksIn (replicate (side * side) 0) ≡ noLinks
 unfolding linksIn
-none-linked = fun-ext (λ u. fun-ext (λ v. rw (at-zeros (side * u + v)) (and-false (ltb v side))))
+none-linked = fun-ext (λ u. fun-ext (λ v. rw (at-zeros (side * side) (side * u + v)) (and-false (ltb v side))))

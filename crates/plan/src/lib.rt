@@ -14,11 +14,9 @@ ghost use Rattle.plan.specs.Wire.{Connects, Wired};
 ghost use Rattle.plan.specs.Plans.{planIn, Bounded};
 ghost use Rattle.plan.specs.Measure.{overIn, roomIn};
 ghost use Rattle.plan.specs.Planned.{Steps, Planned};
+use network::SIDE;
 use network::Sections;
 use network::Switch;
-
-// The width of the tables by vertex.
-const SIDE: usize = 24;
 
 // The bytes of a table with a row for each vertex.
 const TABLE: usize = SIDE * SIDE;

@@ -9,6 +9,7 @@ ghost use Rattle.network.specs.Layout.{networkAnswer};
 ghost use Rattle.reader.specs.Answers.{verdictOf, sizeOf, testOf, variablesOf, entriesTest, countOf, sectionCount, checkedOf, Told};
 use form::Fault;
 use network::Limits;
+use network::SIDE;
 use network::Sections;
 
 // What a test finds.
@@ -265,7 +266,7 @@ pub fn check_network(file: &[u8]) -> Checked
         Limits {
             variables: 200,
             givens: 500,
-            vertices: 24,
+            vertices: SIDE,
             switches: 400,
         },
     )
