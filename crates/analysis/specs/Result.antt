@@ -4,7 +4,7 @@ use Prim.Native.Nat.{ℕ, _+_, _*_}
 use lib.ListN.{length}
 use Rattle.elimination.specs.Plan.{planOf, workOf}
 use Rattle.form.specs.Numbers.{bytesOf}
-use Rattle.form.specs.declared.Record.{Record}
+use Rattle.form.specs.References.{recordEntry}
 use Rattle.links.specs.Lists.{vertices}
 use Rattle.links.specs.Links.{Graph, Step, order, steps}
 use Rattle.links.specs.Switches.{linksOf, joinsOf}
@@ -21,12 +21,9 @@ eliminated net = perform (length (net .variables)) (planOf (length (net .starts)
 abbrev pub section : {A : Type 0} → (A → List ℕ) → List A → List ℕ
 section entry xs = length xs ∷ flatMap entry xs
 
--- An entry of one number; a record: kind, first, second; a pivot: vertex, degree.
+-- An entry of one number; a pivot: vertex, degree.
 abbrev pub single : ℕ → List ℕ
 single n = n ∷ []
-
-abbrev pub recordEntry : Record → List ℕ
-recordEntry r = r .kind ∷ r .first ∷ r .second ∷ []
 
 abbrev pub stepEntry : Step → List ℕ
 stepEntry s = s .vertex ∷ s .degree ∷ []

@@ -2,3 +2,4 @@ pub mod Numbers
 pub mod References
 pub mod Refusals
 pub mod Verdicts
+pub mod Writing

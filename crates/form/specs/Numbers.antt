@@ -4,7 +4,7 @@ use mathlib.Core.Bool.{Bool, true, false, cond}
 use mathlib.Core.List.{List, [], _∷_}
 use Prim.Native.Nat.{ℕ, _+_, _*_, _/_, _%_}
 use lib.Dec.{eqb}
-use lib.ListN.{getD}
+use lib.ListN.{getD, set}
 
 -- All numbers are 16 bits, low byte first: the number at a place of a byte string.
 unfoldable pub wordAt : List ℕ → ℕ → ℕ
@@ -14,6 +14,15 @@ wordAt s at = getD s at 0 + 256 * getD s (at + 1) 0
 unfoldable pub bytesOf : List ℕ → List ℕ
 bytesOf [] = []
 bytesOf (n ∷ ns) = n % 256 ∷ n / 256 ∷ bytesOf ns
+
+-- A number written at a place, low byte first,
+unfoldable pub putWord : List ℕ → ℕ → ℕ → List ℕ
+putWord s at n = set (set s at (n % 256)) (at + 1) (n / 256)
+
+-- and numbers written one after another.
+unfoldable pub putNumbers : List ℕ → ℕ → List ℕ → List ℕ
+putNumbers s at [] = s
+putNumbers s at (n ∷ ns) = putNumbers (putWord s at n) (at + 2) ns
 
 -- A truth is written as 1 or 0.
 abbrev pub bitOf : Bool → ℕ

@@ -2,7 +2,7 @@
 ghost use mathlib.Core.Path.{_≡_};
 ghost use Prim.Native.Nat.{_+_, _<_, _≤_};
 ghost use lib.ListN.{length};
-ghost use Rattle.form.specs.Numbers.{wordAt};
+ghost use Rattle.form.specs.Numbers.{wordAt, putWord};
 ghost use Rattle.form.specs.References.{variable};
 
 // A formula: its kind is 1 for and, 2 for or, 3 for not, and its arguments are references. A given formula and a record have this form.
@@ -70,4 +70,13 @@ pub fn word(s: &[u8], at: usize) -> u16
     ensures { λ r. ⌜ r ≡ wordAt (now (s .entry)) at ⌝ }
 {
     wide(s[at]) + 256 * wide(s[at + 1])
+}
+
+// Writes a number at a place.
+pub fn put_word(s: &mut [u8], at: usize, v: u16)
+    requires { ⌜ at + 2 ≤ length (now s) ⌝ }
+    ensures { λ _. ⌜ now (s .exit) ≡ putWord (now (s .entry)) at v ⌝ }
+{
+    s[at] = (v % 256) as u8;
+    s[at + 1] = (v / 256) as u8;
 }

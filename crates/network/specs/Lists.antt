@@ -1,6 +1,6 @@
 -- The lists of an accepted file's network: how long they are, and what stands at an index.
 use mathlib.Core.Path.{_≡_, refl, ap}
-use mathlib.Core.List.{List}
+use mathlib.Core.List.{List, [], _∷_, _++_}
 use Prim.Native.Nat.{ℕ, zero, suc, _+_, _*_, _<_}
 use native.Mathlib.Nat.{mul-zero, mul-suc, add-zero}
 use native.Mathlib.Omega.{arith}
@@ -26,6 +26,24 @@ module _ {A : Type 0} (entry : ℕ → A) (size : ℕ) where
   entries-at at (suc n) (suc k) d h =
       let p : at + size * suc k ≡ (at + size) + size * k = rw mul-suc (omega arith) in
       rw p (entries-at (at + size) n k d (omega arith))
+
+  -- One entry more, at the end.
+  pub entries-more : (at n : ℕ) → entriesOf entry size at (suc n) ≡ entriesOf entry size at n ++ (entry (at + size * n) ∷ [])
+  unfolding entriesOf
+  entries-more at zero = simp (mul-zero, add-zero)
+  entries-more at (suc n) =
+      let p : at + size * suc n ≡ (at + size) + size * n = rw mul-suc (omega arith) in
+      ap (λ (t : List A). entry at ∷ t) (rw p (entries-more (at + size) n))
+
+  -- Entries that agree make one list.
+  pub entries-same : (other : ℕ → A) (at n : ℕ) → ((k : ℕ) → k < n → entry (at + size * k) ≡ other (at + size * k)) → entriesOf entry size at n ≡ entriesOf other size at n
+  unfolding entriesOf
+  entries-same other at zero e = refl
+  entries-same other at (suc n) e =
+      let p : (k : ℕ) → at + size * suc k ≡ (at + size) + size * k = λ k. rw mul-suc (omega arith) in
+      let first : entry at ≡ other at = simp (mul-zero, add-zero) at (e 0 (omega arith)) in
+      let rest = entries-same other (at + size) n (λ k h. rw p at (e (suc k) (omega arith))) in
+      cc
 
 module _ {s : List ℕ} {parts : Sections} (r : Layout s parts) where
   -- How many there are.

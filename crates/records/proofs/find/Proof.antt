@@ -1,0 +1,29 @@
+-- `records::find` meets its contract: the invariant and its laws are those of `Searched`.
+use borrow.Author.Needs.{needs}
+use Prim.Native.Nat.{_-_}
+use Rattle.records.specs.Found.{Searched, searched-none, searched-hit, searched-more, searched-all}
+use Rattle.records.proofs.find.Statement.{statement}
+use Rattle.records.proofs.find.Tie as tie
+
+abbrev Inv-loop : tie.InvT-loop
+Inv-loop s base count x k₀ k = Searched s base count x k
+
+abbrev μ-loop : tie.MeasureT-loop
+μ-loop s base count x k₀ k = count - k
+
+pub find-spec : {M : Type 1} → statement M
+find-spec =
+    tie.close
+    (tie.spec
+    Inv-loop
+    μ-loop
+    (λ c. search searched-none)
+    (λ c. search needs)
+    (λ c. search needs)
+    (λ c. search needs)
+    (λ c. search needs)
+    (λ c. search searched-hit)
+    (λ c. search needs)
+    (λ c. search needs)
+    (λ c. search searched-more)
+    (λ c. search searched-all))

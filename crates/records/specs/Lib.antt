@@ -1,0 +1,5 @@
+pub mod Bytes
+pub mod Gives
+pub mod Laws
+pub mod Found
+pub mod Rules

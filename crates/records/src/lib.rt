@@ -1,0 +1,253 @@
+// A table of formula records in a lent buffer: read, found, appended, and made by the rules.
+ghost use mathlib.Core.Path.{_≡_};
+ghost use Prim.Native.Nat.{_+_, _*_, _<_, _≤_};
+ghost use lib.ListN.{length};
+ghost use Rattle.form.specs.References.{formula};
+ghost use Rattle.formula.specs.Make.{same, notOf, neutral, deciding, indexOf, named, enter, negate, combine, make};
+ghost use Rattle.network.specs.Network.{givenAt};
+ghost use Rattle.records.specs.Bytes.{putRecord, recordsIn};
+ghost use Rattle.records.specs.Gives.{Room, Makes};
+use form::Record;
+use form::Reference;
+
+// What making gives: a reference, and how many records there are then.
+pub struct Made {
+    pub reference: Reference,
+    pub count: usize,
+}
+
+pub const AND: u16 = 1;
+
+pub const OR: u16 = 2;
+
+pub const NOT: u16 = 3;
+
+// The record at a place.
+pub fn read_record(s: &[u8], at: usize) -> Record
+    requires { ⌜ at + 6 ≤ length (now s) ⌝ }
+    ensures { λ r. ⌜ r ≡ givenAt (now (s .entry)) at ⌝ }
+{
+    Record {
+        kind: form::word(s, at),
+        first: form::word(s, at + 2),
+        second: form::word(s, at + 4),
+    }
+}
+
+// Writes a record at a place.
+pub fn put_record(s: &mut [u8], at: usize, r: Record)
+    requires { ⌜ at + 6 ≤ length (now s) ⌝ }
+    ensures { λ _. ⌜ now (s .exit) ≡ putRecord (now (s .entry)) at r ⌝ }
+{
+    form::put_word(s, at, r.kind);
+    form::put_word(s, at + 2, r.first);
+    form::put_word(s, at + 4, r.second);
+}
+
+// Whether two records are the same.
+fn same_record(x: Record, y: Record) -> bool
+    ensures { λ r. ⌜ r ≡ same x y ⌝ }
+{
+    if x.kind != y.kind {
+        return false;
+    }
+    if x.first != y.first {
+        return false;
+    }
+    x.second == y.second
+}
+
+// The index of the first record that is the same as x, or the count where none is.
+pub fn find(s: &[u8], base: usize, count: usize, x: Record) -> usize
+    requires { ⌜ base + 6 * count ≤ length (now s) ⌝ }
+    ensures { λ r. ⌜ r ≡ indexOf (recordsIn (now (s .entry)) base count) x ⌝ }
+{
+    let mut k = 0;
+    while k < count {
+        if same_record(read_record(s, base + 6 * k), x) {
+            return k;
+        }
+        k += 1;
+    }
+    k
+}
+
+// The record that a reference names; its kind is 0 for a constant or a variable.
+pub fn record_of(s: &[u8], base: usize, p: usize, count: usize, r: Reference) -> Record
+    requires { ⌜ Room p base count (now s) ⌝ }
+    requires { ⌜ r .number < formula p count ⌝ }
+    ensures { λ x. ⌜ x ≡ named p (r .number) (recordsIn (now (s .entry)) base count) ⌝ }
+{
+    let i = r.number as usize;
+    if i < 2 + p {
+        return Record {
+            kind: 0,
+            first: 0,
+            second: 0,
+        };
+    }
+    read_record(s, base + 6 * (i - (2 + p)))
+}
+
+// Rules 6 and 7: the reference of a record, which is appended where it is not there yet.
+pub fn stored(s: &mut [u8], base: usize, p: usize, count: usize, x: Record) -> Made
+    requires { ⌜ Room p base count (now s) ⌝ }
+    ensures { λ r. ⌜ Makes (enter p x) base count (now (s .entry)) (now (s .exit)) r ⌝ }
+{
+    let k = find(s, base, count, x);
+    if k < count {
+        return Made {
+            reference: Reference::of(p + k),
+            count,
+        };
+    }
+    put_record(s, base + 6 * count, x);
+    Made {
+        reference: Reference::of(p + count),
+        count: count + 1,
+    }
+}
+
+// Rule 5: a not record.
+pub fn negated(s: &mut [u8], base: usize, p: usize, count: usize, a: Reference) -> Made
+    requires { ⌜ Room p base count (now s) ⌝ }
+    requires { ⌜ a .number < formula p count ⌝ }
+    ensures { λ r. ⌜ Makes (negate p (a .number)) base count (now (s .entry)) (now (s .exit)) r ⌝ }
+{
+    if a.number == Reference::FALSE.number {
+        return Made {
+            reference: Reference::TRUE,
+            count,
+        };
+    }
+    if a.number == Reference::TRUE.number {
+        return Made {
+            reference: Reference::FALSE,
+            count,
+        };
+    }
+    let x = record_of(s, base, p, count, a);
+    if x.kind == NOT {
+        return Made {
+            reference: Reference { number: x.first },
+            count,
+        };
+    }
+    stored(
+        s,
+        base,
+        p,
+        count,
+        Record {
+            kind: NOT,
+            first: a.number,
+            second: 0,
+        },
+    )
+}
+
+// The argument of and or or that leaves the other as it is.
+fn neutral(kind: u16) -> Reference
+    ensures { λ r. ⌜ r .number ≡ neutral kind ⌝ }
+{
+    if kind == OR {
+        return Reference::FALSE;
+    }
+    Reference::TRUE
+}
+
+// The argument of and or or that decides the result.
+fn deciding(kind: u16) -> Reference
+    ensures { λ r. ⌜ r .number ≡ deciding kind ⌝ }
+{
+    if kind == OR {
+        return Reference::TRUE;
+    }
+    Reference::FALSE
+}
+
+// Whether a record is a not record of a.
+fn is_not_of(a: Reference, x: Record) -> bool
+    ensures { λ r. ⌜ r ≡ notOf (a .number) x ⌝ }
+{
+    if x.kind != NOT {
+        return false;
+    }
+    x.first == a.number
+}
+
+// Rules 2 to 4: an and or an or, the smaller argument first.
+pub fn combined(
+    s: &mut [u8],
+    base: usize,
+    p: usize,
+    count: usize,
+    kind: u16,
+    a: Reference,
+    b: Reference,
+) -> Made
+    requires { ⌜ Room p base count (now s) ⌝ }
+    requires { ⌜ b .number < formula p count ⌝ }
+    ensures { λ r. ⌜ Makes (combine p kind (a .number) (b .number)) base count (now (s .entry)) (now (s .exit)) r ⌝ }
+{
+    if a.number == neutral(kind).number {
+        return Made {
+            reference: b,
+            count,
+        };
+    }
+    let end = deciding(kind);
+    if a.number == end.number {
+        return Made {
+            reference: a,
+            count,
+        };
+    }
+    if a.number == b.number {
+        return Made {
+            reference: a,
+            count,
+        };
+    }
+    if is_not_of(a, record_of(s, base, p, count, b)) {
+        return Made {
+            reference: end,
+            count,
+        };
+    }
+    stored(
+        s,
+        base,
+        p,
+        count,
+        Record {
+            kind,
+            first: a.number,
+            second: b.number,
+        },
+    )
+}
+
+// The reference of an operation on references, by the rules 1 to 7.
+pub fn make(
+    s: &mut [u8],
+    base: usize,
+    p: usize,
+    count: usize,
+    kind: u16,
+    a: Reference,
+    b: Reference,
+) -> Made
+    requires { ⌜ Room p base count (now s) ⌝ }
+    requires { ⌜ a .number < formula p count ⌝ }
+    requires { ⌜ b .number < formula p count ⌝ }
+    ensures { λ r. ⌜ Makes (make p kind (a .number) (b .number)) base count (now (s .entry)) (now (s .exit)) r ⌝ }
+{
+    if kind == NOT {
+        return negated(s, base, p, count, a);
+    }
+    if a.number <= b.number {
+        return combined(s, base, p, count, kind, a, b);
+    }
+    combined(s, base, p, count, kind, b, a)
+}
