@@ -35,7 +35,7 @@ pub fn read_record(s: &[u8], at: usize) -> Record
 }
 
 // Writes a record at a place.
-pub fn put_record(s: &mut [u8], at: usize, r: Record)
+fn put_record(s: &mut [u8], at: usize, r: Record)
     requires { ⌜ at + 6 ≤ length (now s) ⌝ }
     ensures { λ _. ⌜ now (s .exit) ≡ putRecord (now (s .entry)) at r ⌝ }
 {
@@ -58,7 +58,7 @@ fn same_record(x: Record, y: Record) -> bool
 }
 
 // The index of the first record that is the same as x, or the count where none is.
-pub fn find(s: &[u8], base: usize, count: usize, x: Record) -> usize
+fn find(s: &[u8], base: usize, count: usize, x: Record) -> usize
     requires { ⌜ base + 6 * count ≤ length (now s) ⌝ }
     ensures { λ r. ⌜ r ≡ indexOf (recordsIn (now (s .entry)) base count) x ⌝ }
 {
@@ -73,7 +73,7 @@ pub fn find(s: &[u8], base: usize, count: usize, x: Record) -> usize
 }
 
 // The record that a reference names; its kind is 0 for a constant or a variable.
-pub fn record_of(s: &[u8], base: usize, p: usize, count: usize, r: Reference) -> Record
+fn record_of(s: &[u8], base: usize, p: usize, count: usize, r: Reference) -> Record
     requires { ⌜ Room p base count (now s) ⌝ }
     requires { ⌜ r .number < formula p count ⌝ }
     ensures { λ x. ⌜ x ≡ named p (r .number) (recordsIn (now (s .entry)) base count) ⌝ }
@@ -90,7 +90,7 @@ pub fn record_of(s: &[u8], base: usize, p: usize, count: usize, r: Reference) ->
 }
 
 // Rules 6 and 7: the reference of a record, which is appended where it is not there yet.
-pub fn stored(s: &mut [u8], base: usize, p: usize, count: usize, x: Record) -> Made
+fn stored(s: &mut [u8], base: usize, p: usize, count: usize, x: Record) -> Made
     requires { ⌜ Room p base count (now s) ⌝ }
     ensures { λ r. ⌜ Makes (enter p x) base count (now (s .entry)) (now (s .exit)) r ⌝ }
 {
@@ -109,7 +109,7 @@ pub fn stored(s: &mut [u8], base: usize, p: usize, count: usize, x: Record) -> M
 }
 
 // Rule 5: a not record.
-pub fn negated(s: &mut [u8], base: usize, p: usize, count: usize, a: Reference) -> Made
+fn negated(s: &mut [u8], base: usize, p: usize, count: usize, a: Reference) -> Made
     requires { ⌜ Room p base count (now s) ⌝ }
     requires { ⌜ a .number < formula p count ⌝ }
     ensures { λ r. ⌜ Makes (negate p (a .number)) base count (now (s .entry)) (now (s .exit)) r ⌝ }
@@ -177,7 +177,7 @@ fn is_not_of(a: Reference, x: Record) -> bool
 }
 
 // Rules 2 to 4: an and or an or, the smaller argument first.
-pub fn combined(
+fn combined(
     s: &mut [u8],
     base: usize,
     p: usize,
