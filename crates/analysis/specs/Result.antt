@@ -1,12 +1,12 @@
 -- The result form.
 use mathlib.Core.List.{List, [], _∷_, _++_, map, flatMap}
-use Prim.Native.Nat.{ℕ, _+_, _*_}
+use Prim.Native.Nat.{ℕ, _+_}
 use lib.ListN.{length}
 use Rattle.elimination.specs.Plan.{planOf, workOf}
 use Rattle.form.specs.Numbers.{bytesOf}
 use Rattle.form.specs.References.{recordEntry}
 use Rattle.links.specs.Lists.{vertices}
-use Rattle.links.specs.Links.{Graph, Step, order, steps}
+use Rattle.links.specs.Links.{Step, order, steps}
 use Rattle.links.specs.Switches.{linksOf, joinsOf}
 use Rattle.network.specs.Network.{Network}
 use Rattle.sheet.specs.Perform.{Sheet, perform}

@@ -1,7 +1,7 @@
 -- The sheet from which the elimination starts: starts and labels translated, labels joined.
 use mathlib.Core.Bool.{cond}
 use mathlib.Core.List.{List, [], _∷_}
-use Prim.Native.Nat.{ℕ, _+_}
+use Prim.Native.Nat.{ℕ}
 use lib.Dec.{eqb}
 use lib.ListN.{length, getD}
 use Rattle.form.specs.References.{kindOr, constantFalse}
@@ -11,7 +11,7 @@ use Rattle.links.specs.Links.{Graph}
 use Rattle.links.specs.Switches.{link, noLinks}
 use Rattle.network.specs.Network.{Network}
 use Rattle.network.specs.declared.Switch.{Switch}
-use Rattle.sheet.specs.Perform.{Sheet, setCell, put}
+use Rattle.sheet.specs.Perform.{Sheet, put}
 use Rattle.sheet.specs.declared.Cell.{Cell}
 use Rattle.sheet.specs.declared.Cell.the-variants.{Start, Label}
 

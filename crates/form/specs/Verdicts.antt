@@ -34,11 +34,8 @@ pub first-fine : (a b : Verdict) → firstOf a b ≡ fine → (a ≡ fine) × (b
 first-fine fine b e = (refl, e)
 first-fine (fault n p) b e = let z : _≡_ {A = ℕ} 0 1 = cc in absurd (omega arith)
 
--- An answer follows its verdict, and tells it.
+-- An answer tells its verdict.
 module _ {A : Type 0} where
-  pub answering : (a : A) {v w : Verdict} → v ≡ w → answer v a ≡ answer w a
-  answering a e = ap (λ (u : Verdict). answer u a) e
-
   pub accepts : (a b : A) (v : Verdict) → accepted a ≡ answer v b → (fine ≡ v) × (a ≡ b)
   accepts a b fine e = (refl, cc)
   accepts a b (fault number place) e = let z : _≡_ {A = ℕ} 0 1 = cc in absurd (omega arith)

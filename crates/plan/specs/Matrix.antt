@@ -5,12 +5,12 @@ use mathlib.Core.Bool.{Bool, true, false, not, _&&_, and-true, and-false}
 use mathlib.Core.List.{List}
 use Prim.Native.Nat.{ℕ, _+_, _*_, _<_, _≤_}
 use native.Mathlib.Omega.{arith}
-use borrow.Author.Tests.{lt-ltb, le-ltb, eq-eqb, ne-eqb, ltb-true, ltb-false}
+use borrow.Author.Tests.{lt-ltb, le-ltb, eq-eqb, ne-eqb}
 use lib.Dec.{eqb, ltb}
 use lib.ListN.{length, getD, set, replicate, getD-replicate, List·getD-eq-default}
 use lib.Seq.{getD-set-same, getD-set-other}
 use Rattle.laws.specs.Places.{at-zeros}
-use Rattle.laws.specs.Tests.{byTest, bySame}
+use Rattle.laws.specs.Tests.{bySame}
 use Rattle.links.specs.Lists.{keep, without, vertices}
 use Rattle.links.specs.Links.{Graph, beside, neighbours}
 use Rattle.links.specs.ListLaws.{Ascending, keep-all, keep-keep, keep-same, ascending-keep, upTo-bounds, upTo-ascending}

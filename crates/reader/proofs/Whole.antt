@@ -5,7 +5,7 @@ use Prim.Native.Nat.{ℕ, _+_, _<_, _≤_}
 use native.Mathlib.Omega.{arith}
 use lib.ListN.{length}
 use Rattle.form.specs.Numbers.{wordAt}
-use Rattle.form.specs.Refusals.{Verdict, fine, fault, refused, accepted, answer, numberOf, placeOf}
+use Rattle.form.specs.Refusals.{Verdict, fine, fault, refused, answer, numberOf, placeOf}
 use Rattle.form.specs.Verdicts.{accepts, refuses}
 use Rattle.form.specs.declared.Fault.{Fault}
 use Rattle.network.specs.Faults.{entriesFault, sectionFault}

@@ -1,6 +1,6 @@
 -- Each way out of the code, as a law: its tests give the case of the definition, and its values what `Gives` asks.
 use Prim.Native.Nat.{ℕ, _+_, _*_, _≤_, _<_}
-use mathlib.Core.Path.{_≡_, refl, sym, _∙_}
+use mathlib.Core.Path.{_≡_, sym, _∙_}
 use mathlib.Core.List.{List, [], _∷_, append-nil}
 use native.Mathlib.Omega.{arith}
 use mathlib.Core.Bool.{Bool, true, false}
@@ -11,7 +11,7 @@ use Rattle.form.specs.declared.Record.{Record}
 use Rattle.records.specs.declared.Made.{Made}
 use Rattle.records.specs.Bytes.{recordsIn, putRecord}
 use Rattle.records.specs.Laws.{length-records, records-more, put-none, put-one}
-use Rattle.formula.specs.Make.{Outcome, old, indexOf, named, notOf, neutral, deciding, enter, negate, combine, make}
+use Rattle.formula.specs.Make.{old, indexOf, named, notOf, neutral, deciding, enter, negate, combine, make}
 use Rattle.records.specs.Gives.{Gives, Makes}
 
 module _ (base n : ℕ) (s : List ℕ) (m : Made) where

@@ -1,7 +1,6 @@
 -- `reader::second_below` meets its contract: each return is one case of `secondBelow`.
 use borrow.Author.Tests.{eq-eqb, ne-eqb}
 use Rattle.network.specs.Faults.{secondBelow}
-use borrow.Author.Needs.{needs}
 use Rattle.reader.proofs.second_below.Statement.{statement}
 use Rattle.reader.proofs.second_below.Tie as tie
 
