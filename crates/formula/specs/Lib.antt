@@ -1,4 +1,5 @@
 pub mod Make
+pub mod MakeLaws
 pub mod Givens
 pub mod Worth
 pub mod WorthLaws

@@ -1,7 +1,7 @@
 -- What tests say.
 use mathlib.Core.Path.{_≡_, refl}
 use mathlib.Core.Logic.{_≢_}
-use mathlib.Core.Bool.{Bool, true, false, _&&_, false≢true}
+use mathlib.Core.Bool.{Bool, true, false, cond, _&&_, false≢true}
 use Prim.Native.Nat.{ℕ}
 use borrow.Author.Tests.{eqb-true, eqb-false}
 use lib.Dec.{eqb}
@@ -19,3 +19,8 @@ byTest false holds fails = fails refl
 -- Two numbers are the same, or they are not.
 pub bySame : {A : Type 0} (u v : ℕ) → (u ≡ v → A) → (u ≢ v → A) → A
 bySame u v holds fails = byTest (eqb u v) (λ t. holds (eqb-true u v t)) (λ t. fails (eqb-false u v t))
+
+-- What holds of both choices holds of the chosen one.
+pub byChoice : {A : Type 0} (P : A → Type 0) (b : Bool) (x y : A) → (b ≡ true → P x) → (b ≡ false → P y) → P (cond b x y)
+byChoice P true x y holds fails = holds refl
+byChoice P false x y holds fails = fails refl

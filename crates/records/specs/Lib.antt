@@ -3,3 +3,4 @@ pub mod Gives
 pub mod Laws
 pub mod Found
 pub mod Rules
+pub mod Grown
