@@ -1,6 +1,6 @@
 -- A file without a fault has every field in range.
 use mathlib.Core.Path.{_≡_, refl, sym}
-use mathlib.Core.Bool.{Bool, true, false, not, _||_}
+use mathlib.Core.Bool.{Bool, true, false, cond, not, _||_}
 use mathlib.Core.List.{List}
 use Prim.Native.Nat.{ℕ, zero, suc, _+_, _-_, _*_, _<_, _≤_}
 use native.Mathlib.Nat.{mul-zero, mul-suc, add-zero, zero-add}
@@ -9,13 +9,14 @@ use lib.Dec.{eqb}
 use lib.ListN.{length}
 use borrow.Author.Tests.{lt-ltb, ltb-false, leb-false, eqb-true}
 use Rattle.form.specs.Numbers.{wordAt}
-use Rattle.form.specs.References.{formula}
+use Rattle.form.specs.References.{kindNot, formula}
 use Rattle.form.specs.Refusals.{Verdict, fine, firstOf, accepted}
 use Rattle.form.specs.Verdicts.{if-fine, first-fine, accepts}
+use Rattle.form.specs.declared.Record.{Record}
 use Rattle.network.specs.declared.Limits.{Limits}
 use Rattle.network.specs.declared.Sections.{Sections}
 use Rattle.network.specs.Network.{after, endAt, givenAt, switchAt, edition}
-use Rattle.network.specs.Faults.{cutFault, countFault, coilFault, kindFault, referenceFault, endFault, trailingFault, givenFault, vertexFault, switchFault, entriesFault, sectionFault, networkFault}
+use Rattle.network.specs.Faults.{cutFault, countFault, coilFault, kindFault, referenceFault, endFault, trailingFault, secondBelow, givenFault, vertexFault, switchFault, entriesFault, sectionFault, networkFault}
 use Rattle.network.specs.Layout.{sectionsOf, networkAnswer, GivenIn, SwitchIn, Within, Layout, Sound}
 
 -- One of three numbers.
@@ -171,3 +172,12 @@ sound limits s parts e =
 -- The longest accepted file has 6,656 bytes.
 pub longest : (s : List ℕ) (parts : Sections) → Layout s parts → Within edition parts → length s ≤ 6656
 longest s parts l w = omega arith
+
+-- The second argument of a given formula is below its reference too.
+below-both : (t : Bool) (own x : ℕ) → 1 ≤ own → x < cond t 1 own → x < own
+below-both true own x h l = omega arith
+below-both false own x h l = l
+
+pub second-in : (own : ℕ) (g : Record) → 1 ≤ own → GivenIn own g → g .second < own
+unfolding secondBelow
+second-in own g h r = below-both (eqb (g .kind) kindNot) own (g .second) h (r .second)

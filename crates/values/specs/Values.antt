@@ -2,19 +2,18 @@
 use mathlib.Core.Path.{_≡_}
 use mathlib.Core.Bool.{Bool, true, false}
 use mathlib.Core.List.{List}
-use Prim.Native.Nat.{ℕ, _<_, _≤_}
+use Prim.Native.Nat.{ℕ, _<_}
 use native.Mathlib.Omega.{arith}
 use borrow.Author.Tests.{eq-eqb, ne-eqb}
 use lib.Dec.{eqb}
 use lib.ListN.{length, getD}
-use Rattle.laws.specs.Tests.{byTest}
 use Rattle.form.specs.Numbers.{bitOf}
 use Rattle.form.specs.References.{kindOr, kindNot, formula}
 use Rattle.form.specs.declared.Record.{Record}
 use Rattle.formula.specs.Worth.{operate}
 use Rattle.network.specs.declared.Sections.{Sections}
-use Rattle.network.specs.Faults.{secondBelow}
 use Rattle.network.specs.Layout.{Layout, Within, GivenRead}
+use Rattle.network.specs.Ranges.{second-in}
 use Rattle.network.specs.Network.{edition}
 
 -- The value that the array gives a reference.
@@ -84,11 +83,6 @@ module _ (values : List ℕ) (g : Record) where
     unfolding gateBit operate
     and-of-both a b = rw (ne-eqb _ kindNot k, ne-eqb _ kindOr l, is-true values _ a, is-true values _ b)
 
--- The second argument of a given formula is below its reference too.
-second-below : (kind own x : ℕ) → 1 ≤ own → x < secondBelow kind own → x < own
-unfolding secondBelow
-second-below kind own x h = byTest (eqb kind kindNot) (λ t. rw t (λ l. omega arith)) (λ t. rw t (λ l. l))
-
 -- A given formula that was read has its arguments in the array.
 pub given-small :
     (s : List ℕ) (parts : Sections) →
@@ -100,5 +94,5 @@ pub given-small :
     GivenRead s parts k g →
     Small g
 given-small s parts layout within k h g read =
-    let b = second-below (g .kind) (formula (parts .variables) k) (g .second) (omega arith) (read .range .second) in
+    let b = second-in (formula (parts .variables) k) g (omega arith) (read .range) in
     record { first = omega (arith, read .range .first); second = omega arith }

@@ -1,0 +1,2 @@
+pub mod Passed
+pub mod Passing
