@@ -1,6 +1,6 @@
 -- The switches of a network, linked one by one, and their joins.
 use mathlib.Core.Path.{_≡_, refl, ap, sym, _∙_, fun-ext}
-use mathlib.Core.Bool.{Bool, _||_, and-false, or-true, or-false}
+use mathlib.Core.Bool.{Bool, cond, _||_, and-false, or-true, or-false}
 use mathlib.Core.List.{List, _∷_}
 use Prim.Native.Nat.{ℕ, suc, _+_, _*_, _<_, _≤_}
 use native.Mathlib.Omega.{arith}
@@ -9,14 +9,15 @@ use borrow.Author.Tests.{eq-eqb, ne-eqb, ltb-true, ltb-false}
 use lib.Dec.{eqb, ltb}
 use lib.ListN.{length, getD, set, drop, length-set}
 use lib.Seq.{getD-set-same, getD-set-other, drop-cons, drop-length}
-use Rattle.laws.specs.Tests.{byTest, bySame}
+use Rattle.laws.specs.Places.{set-below}
+use Rattle.laws.specs.Tests.{byTest, bySame, byChoice}
 use Rattle.links.specs.Switches.{pair, link, joinsAt, linksFrom, joinsFrom}
 use Rattle.network.specs.Network.{side, networkOf}
 use Rattle.network.specs.Layout.{Layout, SwitchRead}
 use Rattle.network.specs.Lists.{switches-length, switch-at}
 use Rattle.network.specs.declared.Sections.{Sections}
 use Rattle.network.specs.declared.Switch.{Switch}
-use Rattle.plan.specs.Matrix.{linksIn, linked-is, is-linked, not-linked, beyond-column}
+use Rattle.plan.specs.Matrix.{linksIn, Bits, linked-is, is-linked, not-linked, beyond-column}
 
 -- One byte set.
 module _ (links : List ℕ) (long : length links ≡ side * side) (a b : ℕ) (ha : a < side) (hb : b < side) where
@@ -34,22 +35,37 @@ module _ (links : List ℕ) (long : length links ≡ side * side) (a b : ℕ) (h
       (λ t. let h = ltb-false v side t in
       rw (beyond-column (set links (side * a + b) 1) u v h, beyond-column links u v h, ne-eqb v b (omega arith)) (sym (and-false (eqb u a))))
 
+-- The table once the ends of a switch are linked.
+unfoldable pub connected : Switch → List ℕ → List ℕ
+connected w links =
+    cond (eqb (w .first) (w .second)) links (set (set links (side * w .first + w .second) 1) (side * w .second + w .first) 1)
+
+pub connected-bits : (w : Switch) (links : List ℕ) → Bits links → Bits (connected w links)
+unfolding connected Bits
+connected-bits w links b =
+    byChoice Bits (eqb (w .first) (w .second)) _ _
+    (λ t. b)
+    (λ t. set-below (set links (side * w .first + w .second) 1) (side * w .second + w .first) 1 2 (omega arith)
+    (set-below links (side * w .first + w .second) 1 2 (omega arith) b))
+
 -- A switch has been linked.
 pub record Connects (w : Switch) (links exit : List ℕ) (r : ℕ) : Type 0 where
   pub graph : linksIn exit ≡ link w (linksIn links)
   pub joins : r ≡ joinsAt w (linksIn links)
   pub most : r ≤ 2
+  pub bytes : exit ≡ connected w links
   pub long : length exit ≡ side * side
 
 -- The ways out of `connect`.
 module _ (w : Switch) (links : List ℕ) (long : length links ≡ side * side) where
   pub connects-loop : w .first ≡ w .second → Connects w links links 0
-  unfolding link joinsAt
+  unfolding link joinsAt connected
   connects-loop e =
       record {
         graph = fun-ext (λ u. fun-ext (λ v. rw (eq-eqb _ _ e)));
         joins = rw (eq-eqb _ _ e);
         most = omega arith;
+        bytes = rw (eq-eqb _ _ e);
         long = long;
       }
 
@@ -68,15 +84,15 @@ module _ (w : Switch) (links : List ℕ) (long : length links ≡ side * side) w
 
     pub connects-first : (getD links (side * w .first + w .second) 0 ≡ 1 → ⊥)
         → Connects w links (set (set links (side * w .first + w .second) 1) (side * w .second + w .first) 1) 0
-    unfolding joinsAt
+    unfolding joinsAt connected
     connects-first e =
-        record { graph = both; joins = rw (ne-eqb _ _ d, not-linked links (w .first) (w .second) ht e); most = omega arith; long = lengths }
+        record { graph = both; joins = rw (ne-eqb _ _ d, not-linked links (w .first) (w .second) ht e); most = omega arith; bytes = rw (ne-eqb _ _ d); long = lengths }
 
     pub connects-later : getD links (side * w .first + w .second) 0 ≡ 1
         → Connects w links (set (set links (side * w .first + w .second) 1) (side * w .second + w .first) 1) 2
-    unfolding joinsAt
+    unfolding joinsAt connected
     connects-later e =
-        record { graph = both; joins = rw (ne-eqb _ _ d, is-linked links (w .first) (w .second) ht e); most = omega arith; long = lengths }
+        record { graph = both; joins = rw (ne-eqb _ _ d, is-linked links (w .first) (w .second) ht e); most = omega arith; bytes = rw (ne-eqb _ _ d); long = lengths }
 
 -- The first k switches have been linked.
 pub record Wiring (ws : List Switch) (start links : List ℕ) (k sum : ℕ) : Type 0 where

@@ -5,7 +5,7 @@ ghost use lib.ListN.{length};
 ghost use Rattle.links.specs.Links.{gone};
 ghost use Rattle.network.specs.Network.{side, edition, networkOf};
 ghost use Rattle.network.specs.Layout.{Layout, Within};
-ghost use Rattle.plan.specs.Matrix.{linksIn, remaining};
+ghost use Rattle.plan.specs.Matrix.{linksIn, Bits, remaining};
 ghost use Rattle.plan.specs.Degree.{nearBy, degreeIn};
 ghost use Rattle.plan.specs.Work.{labelAsked, neighbourAsked, pivotAsked, neighbourMost, pivotMost};
 ghost use Rattle.plan.specs.Scan.{turn, Takes};
@@ -19,10 +19,10 @@ use network::Sections;
 use network::Switch;
 
 // The bytes of a table with a row for each vertex.
-const TABLE: usize = SIDE * SIDE;
+pub const TABLE: usize = SIDE * SIDE;
 
 // 1 where v remains and is linked to p.
-fn near_by(links: &[u8; TABLE], rest: &[u8; SIDE], p: usize, v: usize) -> usize
+pub fn near_by(links: &[u8; TABLE], rest: &[u8; SIDE], p: usize, v: usize) -> usize
     requires { ⌜ (p < side) × (v < side) ⌝ }
     ensures { λ r. ⌜ (r ≡ nearBy (now (links .entry)) (now (rest .entry)) p v) × (r ≤ 1) ⌝ }
 {
@@ -160,9 +160,9 @@ fn joined(links: &[u8; TABLE], p: usize, u: usize, v: usize) -> u8
 }
 
 // Eliminates p: its neighbours are linked pairwise.
-fn eliminate(links: &mut [u8; TABLE], p: usize)
+pub fn eliminate(links: &mut [u8; TABLE], p: usize)
     requires { ⌜ (p < side) × (length (now links) ≡ side * side) ⌝ }
-    ensures { λ r. ⌜ (linksIn (now (links .exit)) ≡ gone p (linksIn (now (links .entry)))) × (length (now (links .exit)) ≡ side * side) ⌝ }
+    ensures { λ r. ⌜ (linksIn (now (links .exit)) ≡ gone p (linksIn (now (links .entry)))) × (length (now (links .exit)) ≡ side * side) × Bits (now (links .exit)) ⌝ }
 {
     let old = *links;
     let mut k = 0;
@@ -173,7 +173,7 @@ fn eliminate(links: &mut [u8; TABLE], p: usize)
 }
 
 // Links the ends of a switch, in both directions; gives its joins.
-fn connect(links: &mut [u8; TABLE], w: Switch) -> usize
+pub fn connect(links: &mut [u8; TABLE], w: Switch) -> usize
     requires { ⌜ (w .first < side) × (w .second < side) × (length (now links) ≡ side * side) ⌝ }
     ensures { λ r. ⌜ Connects w (now (links .entry)) (now (links .exit)) r ⌝ }
 {

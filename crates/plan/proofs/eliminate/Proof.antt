@@ -1,7 +1,7 @@
 -- `plan::eliminate` meets its contract: the invariant and its laws are those of `Going`.
 use Prim.Native.Nat.{_-_, _*_}
 use Rattle.network.specs.Network.{side}
-use Rattle.plan.specs.Gone.{Going, going-none, going-more, going-all}
+use Rattle.plan.specs.Gone.{Going, going-none, going-more, going-all, going-bits}
 use borrow.Author.Needs.{needs}
 use Rattle.plan.proofs.eliminate.Statement.{statement}
 use Rattle.plan.proofs.eliminate.Tie as tie
@@ -24,4 +24,4 @@ eliminate-spec =
     (λ c. search needs)
     (λ c. search needs)
     (λ c. search (going-more, needs))
-    (λ c. search (going-all, needs)))
+    (λ c. (search (going-all, needs), search needs, search (going-bits, needs))))

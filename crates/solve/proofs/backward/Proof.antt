@@ -1,0 +1,28 @@
+-- `solve::backward` meets its contract: the invariant and its laws are those of `Looping`.
+use Prim.Native.Nat.{_-_}
+use Rattle.operations.specs.Runs.{Looping}
+use Rattle.solve.specs.Turns.{backTurn}
+use Rattle.solve.specs.Ways.{backward-none, backward-turn, backward-more, backward-all}
+use borrow.Author.Needs.{needs}
+use Rattle.solve.proofs.backward.Statement.{statement}
+use Rattle.solve.proofs.backward.Tie as tie
+
+abbrev Inv-loop : tie.InvT-loop
+Inv-loop cells₀ out₀ base p count links rest n pivot made₀ u₀ cells out made u = Looping p base (backTurn links rest pivot) n cells₀ out₀ count u cells out made
+
+abbrev μ-loop : tie.MeasureT-loop
+μ-loop cells₀ out₀ base p count links rest n pivot made₀ u₀ cells out made u = n - u
+
+pub backward-spec : {M : Type 1} → statement M
+backward-spec =
+    tie.close
+    (tie.spec
+    Inv-loop
+    μ-loop
+    (λ c. search (backward-none, needs))
+    (λ c κs. (search (backward-turn, needs), search needs))
+    (λ c. search needs)
+    (λ c. search needs)
+    (λ c. search (backward-more, needs))
+    (λ c. search needs)
+    (λ c. search (backward-all, needs)))

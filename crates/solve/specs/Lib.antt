@@ -1,0 +1,3 @@
+pub mod Turns
+pub mod Ways
+pub mod Levels
