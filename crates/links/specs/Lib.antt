@@ -4,3 +4,4 @@ pub mod Switches
 pub mod ListLaws
 pub mod Sums
 pub mod OrderLaws
+pub mod Symmetry

@@ -1,0 +1,18 @@
+-- `wiring::wire_sheet` meets its contract: given formulas, starts, switches.
+use Rattle.wiring.specs.Sheet.{givens-table, passed-translates, joins-ready, wired-in}
+use borrow.Author.Needs.{needs}
+use Rattle.wiring.proofs.wire_sheet.Statement.{statement}
+use Rattle.wiring.proofs.wire_sheet.Tie as tie
+
+wire-switches-requires : tie.Need-wire-switches-requires
+wire-switches-requires c κs = (search needs, (search (passed-translates, needs), (search needs, search (joins-ready, needs))))
+
+pub wire-sheet-spec : {M : Type 1} → statement M
+wire-sheet-spec =
+    tie.close
+    (tie.spec
+    (λ c κs. (search needs, (search needs, search (givens-table, needs))))
+    (λ c κs. search needs)
+    wire-switches-requires
+    (λ c. search needs)
+    (λ c. search (wired-in, needs)))

@@ -1,0 +1,4 @@
+pub mod Labels
+pub mod Switches
+pub mod Starts
+pub mod Sheet
