@@ -1,11 +1,11 @@
--- What is read after a number was written.
+-- What is read after a number was written, and what numbers that are written one after another leave.
 use mathlib.Core.Path.{_≡_, refl, ap, _∙_}
 use mathlib.Core.List.{List, [], _∷_, _++_}
-use Prim.Native.Nat.{ℕ, _+_, _*_, _/_, _%_, _≤_}
+use Prim.Native.Nat.{ℕ, suc, _+_, _*_, _/_, _%_, _≤_}
 use native.Mathlib.Omega.{arith}
-use lib.ListN.{length, getD, set, length-set}
-use lib.Seq.{getD-set-same, getD-set-other}
-use Rattle.form.specs.Numbers.{wordAt, putWord, putNumbers}
+use lib.ListN.{length, getD, set, drop, length-set}
+use lib.Seq.{getD-set-same, getD-set-other, set-comm, sets, sets-eq}
+use Rattle.form.specs.Numbers.{wordAt, bytesOf, putWord, putNumbers}
 
 pub word-length : (s : List ℕ) (at n : ℕ) → length (putWord s at n) ≡ length s
 unfolding putWord
@@ -51,3 +51,42 @@ numbers-append s at [] ns = ap (λ (k : ℕ). putNumbers s k ns) (omega arith)
 numbers-append s at (m ∷ ms) ns =
     numbers-append (putWord s at m) (at + 2) ms ns
     ∙ ap (λ (k : ℕ). putNumbers (putNumbers (putWord s at m) (at + 2) ms) k ns) (omega arith)
+
+-- Two numbers apart may change places.
+word-swap : (s : List ℕ) (at n k m : ℕ) → k + 2 ≤ at → putWord (putWord s at n) k m ≡ putWord (putWord s k m) at n
+unfolding putWord
+word-swap s at n k m h =
+    rw (
+      set-comm (set s at (n % 256)) (at + 1) k (n / 256) (m % 256) (λ e. omega arith),
+      set-comm s at k (n % 256) (m % 256) (λ e. omega arith),
+      set-comm (set (set s k (m % 256)) at (n % 256)) (at + 1) (k + 1) (n / 256) (m / 256) (λ e. omega arith),
+      set-comm (set s k (m % 256)) at (k + 1) (n % 256) (m / 256) (λ e. omega arith),
+    )
+
+-- A number before others may be written after them.
+pub word-before : (s : List ℕ) (at : ℕ) (ns : List ℕ) (k n : ℕ) → k + 2 ≤ at → putWord (putNumbers s at ns) k n ≡ putNumbers (putWord s k n) at ns
+unfolding putNumbers
+word-before s at [] k n h = refl
+word-before s at (m ∷ ns) k n h =
+    word-before (putWord s at m) (at + 2) ns k n (omega arith) ∙ ap (λ (t : List ℕ). putNumbers t (at + 2) ns) (word-swap s at m k n h)
+
+-- Two bytes for each number.
+pub bytes-length : (ns : List ℕ) → length (bytesOf ns) ≡ 2 * length ns
+unfolding bytesOf
+bytes-length [] = refl
+bytes-length (n ∷ ns) = omega (arith, bytes-length ns)
+
+-- Numbers are written byte after byte,
+numbers-sets : (s : List ℕ) (at : ℕ) (ns : List ℕ) → putNumbers s at ns ≡ sets s at (bytesOf ns)
+unfolding putNumbers putWord bytesOf
+numbers-sets s at [] = refl
+numbers-sets s at (n ∷ ns) =
+    let one : at + 1 ≡ suc at = omega arith in
+    let two : at + 2 ≡ suc (suc at) = omega arith in
+    rw (one, two) (numbers-sets (set (set s at (n % 256)) (suc at) (n / 256)) (suc (suc at)) ns)
+
+-- and from the front on they are the first bytes; the others stay.
+pub numbers-bytes : (s ns : List ℕ) → 2 * length ns ≤ length s → putNumbers s 0 ns ≡ bytesOf ns ++ drop (2 * length ns) s
+numbers-bytes s ns h =
+    let l : 0 + length (bytesOf ns) ≡ 2 * length ns = omega (arith, bytes-length ns) in
+    numbers-sets s 0 ns ∙ rw l at (sets-eq (bytesOf ns) s 0 (omega arith))

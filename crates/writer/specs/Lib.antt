@@ -1,0 +1,5 @@
+pub mod Last
+pub mod Lengths
+pub mod Entering
+pub mod Steps
+pub mod Whole
