@@ -23,3 +23,8 @@ analysis limits s room = answer (analysisFault limits s room) (resultOf (network
 abbrev pub bufferAfter : Answer (List ℕ) → List ℕ → List ℕ
 bufferAfter (refused number place) buffer = buffer
 bufferAfter (accepted bytes) buffer = bytes ++ drop (length bytes) buffer
+
+-- What the call gives: the length where it is accepted.
+abbrev pub lengthIn : Answer (List ℕ) → Answer ℕ
+lengthIn (refused number place) = refused number place
+lengthIn (accepted bytes) = accepted (length bytes)

@@ -12,7 +12,7 @@ use Rattle.form.specs.declared.Fault.the-variants as faults
 use Rattle.form.specs.declared.Reply.{Reply}
 use Rattle.form.specs.declared.Reply.the-variants as replies
 use Rattle.form.specs.Refusals.{fine, fault, accepted, numberOf, placeOf, replyOf}
-use Rattle.form.specs.Verdicts.{accepts, refuses}
+use Rattle.form.specs.Verdicts.{accepts}
 use Rattle.network.specs.declared.Sections.{Sections}
 use Rattle.network.specs.Faults.{networkFault}
 use Rattle.network.specs.Layout.{sectionsOf, networkAnswer}
@@ -20,6 +20,7 @@ use Rattle.network.specs.Lists.{variables-length, starts-length}
 use Rattle.network.specs.Network.{edition, networkOf}
 use Rattle.network.specs.Ranges.{sound}
 use Rattle.reader.specs.Answers.{checkedOf}
+use Rattle.reader.specs.Callers.{reads-refused}
 use Rattle.reader.specs.declared.Checked.{Checked}
 use Rattle.reader.specs.declared.Checked.the-variants as checks
 use Rattle.direct.specs.Direct.{firstBad, lengthFault, byteFault, answerRoomFault, directFault, directAnswer, Answered, Leaves}
@@ -75,8 +76,7 @@ module _ (s setting before : List ℕ) where
       checkedOf r ≡ networkAnswer edition s →
       Promise s setting before before (replies.Refused f)
   unfolding directFault
-  direct-unread r f e a =
-      let v : fault (numberOf f) (placeOf f) ≡ networkFault edition s = refuses (sectionsOf s) _ _ _ (rw e at a) in refusal f (rw (← v))
+  direct-unread r f e a = let v = reads-refused s r f e a in refusal f (rw (← v))
 
   module _ (parts : Sections) (a : accepted parts ≡ networkAnswer edition s) where
     good : fine ≡ networkFault edition s
@@ -110,11 +110,3 @@ module _ (s setting before : List ℕ) where
             let e : fine ≡ directFault edition s setting (length before) =
             rw (← good, p-is, eq-eqb _ _ l, ← b, le-ltb k (length setting) t, n-is, le-ltb _ _ m) in
             record { reply = rw (← e, n-is); bytes = rw (← e) x }
-
--- The file is accepted.
-pub direct-read :
-    (s : List ℕ) (r : Checked) (parts : Sections) →
-    r ≡ checks.Accepted parts →
-    checkedOf r ≡ networkAnswer edition s →
-    accepted parts ≡ networkAnswer edition s
-direct-read s r parts e a = rw e at a

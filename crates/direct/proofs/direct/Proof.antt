@@ -1,5 +1,6 @@
 -- `direct::direct` meets its contract: the reader's refusal, or the answer for an accepted file.
-use Rattle.direct.specs.Promise.{direct-unread, direct-read}
+use Rattle.reader.specs.Callers.{reads-accepted}
+use Rattle.direct.specs.Promise.{direct-unread}
 use borrow.Author.Needs.{needs}
 use Rattle.direct.proofs.direct.Statement.{statement}
 use Rattle.direct.proofs.direct.Tie as tie
@@ -11,7 +12,7 @@ direct-spec =
     (λ c κs. search needs)
     (λ c. search needs)
     (λ c. search needs)
-    (λ c κs. search (direct-read, needs))
+    (λ c κs. search (reads-accepted, needs))
     (λ c. search (direct-unread, needs))
     (λ c. search needs)
     (λ c. search needs))

@@ -1,0 +1,84 @@
+-- What `analyse` promises, and that each way out keeps it.
+use mathlib.Core.Path.{_≡_, sym, _∙_}
+use mathlib.Core.Bool.{Bool, true, false}
+use mathlib.Core.List.{List}
+use Prim.Native.Nat.{ℕ, _<_, _≤_}
+use native.Mathlib.Omega.{arith}
+use borrow.Author.Tests.{lt-ltb, le-ltb, ltb-false}
+use lib.ListN.{length}
+use Rattle.analysis.specs.Analysis.{analysisFault, analysis, bufferAfter, lengthIn}
+use Rattle.form.specs.declared.Fault.{Fault}
+use Rattle.form.specs.declared.Fault.the-variants as faults
+use Rattle.form.specs.declared.Reply.{Reply}
+use Rattle.form.specs.declared.Reply.the-variants as replies
+use Rattle.form.specs.Refusals.{fine, fault, accepted, numberOf, placeOf, replyOf}
+use Rattle.form.specs.Verdicts.{accepts}
+use Rattle.network.specs.declared.Sections.{Sections}
+use Rattle.network.specs.Faults.{networkFault}
+use Rattle.network.specs.Layout.{sectionsOf, networkAnswer}
+use Rattle.network.specs.Network.{edition, networkOf}
+use Rattle.network.specs.Ranges.{sound}
+use Rattle.plan.specs.Measure.{roomFault, operationsOf, overIn, roomIn, over-fault, room-is}
+use Rattle.plan.specs.Plans.{planIn, Bounded}
+use Rattle.plan.specs.declared.Plan.{Plan}
+use Rattle.reader.specs.Answers.{checkedOf}
+use Rattle.reader.specs.Callers.{reads-refused}
+use Rattle.reader.specs.declared.Checked.{Checked}
+use Rattle.reader.specs.declared.Checked.the-variants as checks
+use Rattle.writer.specs.Whole.{Whole}
+use Rattle.analyse.specs.Filled.{Fillable}
+
+-- Its reply, and each byte of the lent buffer afterwards.
+pub record Promise (s before after : List ℕ) (r : Reply) : Type 0 where
+  pub reply : replyOf r ≡ lengthIn (analysis edition s (length before))
+  pub bytes : after ≡ bufferAfter (analysis edition s (length before)) before
+
+module _ (s before : List ℕ) where
+  -- A refusal writes nothing.
+  refusal : (f : Fault) → fault (numberOf f) (placeOf f) ≡ analysisFault edition s (length before) → Promise s before before (replies.Refused f)
+  unfolding analysis
+  refusal f e = record { reply = rw (← e); bytes = rw (← e) }
+
+  -- The file is refused.
+  pub analyse-unread : (r : Checked) (f : Fault) → r ≡ checks.Refused f → checkedOf r ≡ networkAnswer edition s
+      → Promise s before before (replies.Refused f)
+  unfolding analysisFault
+  analyse-unread r f e a = let v = reads-refused s r f e a in refusal f (rw (← v))
+
+  module _ (parts : Sections) (a : accepted parts ≡ networkAnswer edition s) (found : Plan) (e : found ≡ planIn (networkOf s)) where
+    good : fine ≡ networkFault edition s
+    good = accepts parts (sectionsOf s) _ a .0
+
+    -- It asks for too many operations.
+    pub analyse-over : (t : Bool) → t ≡ overIn found → t ≡ true → Promise s before before (replies.Refused faults.Work)
+    unfolding analysisFault
+    analyse-over t o h = refusal faults.Work (rw (← good, ← over-fault (networkOf s) found e, ← o, h))
+
+    module _ (t : Bool) (o : t ≡ overIn found) (h : t ≡ false) (room : ℕ) (is : room ≡ roomIn parts found) where
+      -- The buffer is too small.
+      pub analyse-room : length before < room → Promise s before before (replies.Refused faults.ResultRoom)
+      unfolding analysisFault roomFault
+      analyse-room m =
+          let w = room-is s parts (sound edition s parts a .layout) found e in
+          refusal faults.ResultRoom (rw (← good, ← over-fault (networkOf s) found e, ← o, h, ← w, ← is, lt-ltb _ _ m))
+
+      -- It can be filled.
+      pub analyse-able : Bounded found → room ≤ length before → Fillable s parts found before
+      analyse-able b m =
+          record {
+            sound = sound edition s parts a;
+            planned = e;
+            bounded = b;
+            allowed = ltb-false 10000 (operationsOf found) (sym o ∙ h);
+            room = omega arith;
+          }
+
+      -- It has been filled.
+      pub analyse-done : room ≤ length before → (after : List ℕ) (n : ℕ) → Whole (networkOf s) before after n
+          → Promise s before after (replies.Accepted n)
+      unfolding analysis analysisFault roomFault
+      analyse-done m after n whole =
+          let w = room-is s parts (sound edition s parts a .layout) found e in
+          let v : fine ≡ analysisFault edition s (length before) =
+          rw (← good, ← over-fault (networkOf s) found e, ← o, h, ← w, ← is, le-ltb _ _ m) in
+          record { reply = rw (← v, ← whole .long); bytes = rw (← v) (whole .bytes) }
