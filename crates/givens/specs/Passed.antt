@@ -2,7 +2,7 @@
 use mathlib.Core.Path.{_≡_}
 use mathlib.Core.List.{List}
 use Prim.Native.Nat.{ℕ, _≤_, _<_}
-use lib.ListN.{length, take}
+use lib.ListN.{length, getD, take}
 use Rattle.form.specs.References.{formula}
 use Rattle.form.specs.declared.Record.{Record}
 use Rattle.formula.specs.Make.{Outcome, make}
@@ -37,4 +37,5 @@ pub record PassedIn (file : List ℕ) (parts : Sections) (base : ℕ) (entry ref
   pub translates :
       (x : ℕ) → x < definedIn parts → translate (parts .variables) references x ≡ translate (parts .variables) (passedOf file parts .references) x
   pub below : (x : ℕ) → translate (parts .variables) references x < formula (parts .variables) count
+  pub clear : (j : ℕ) → parts .givens ≤ j → getD references j 0 ≡ 0
   pub long : length references ≡ edition .givens

@@ -70,6 +70,7 @@ pub record Passing (file : List ℕ) (parts : Sections) (base : ℕ) (entry refe
       ≡ passedOf file parts
   pub grown : Grown (parts .variables) base k entry 0 exit count
   pub there : (j : ℕ) → getD references j 0 < formula (parts .variables) count
+  pub clear : (j : ℕ) → k ≤ j → getD references j 0 ≡ 0
   pub long : length references ≡ edition .givens
 
 module _ (file : List ℕ) (parts : Sections) (sound : Sound edition file parts) (base : ℕ) (entry : List ℕ)
@@ -82,6 +83,7 @@ module _ (file : List ℕ) (parts : Sections) (sound : Sound edition file parts)
         left = refl;
         grown = grown-none (parts .variables) base 0 entry (table .orderly);
         there = λ j. rw e (omega (arith, at-zeros (edition .givens) j));
+        clear = λ j h. rw e (at-zeros (edition .givens) j);
         long = rw e (length-replicate {A = ℕ} (edition .givens) 0);
       }
 
@@ -151,6 +153,7 @@ module _ (file : List ℕ) (parts : Sections) (sound : Sound edition file parts)
               left = rw (add-one, ← step) (rw (d, q) at (inv .left));
               grown = grown-then (parts .variables) base k 1 (inv .grown) one;
               there = there-more;
+              clear = λ j l. getD-set-other references k j (m .reference .number) 0 (omega arith) ∙ inv .clear j (omega arith);
               long = length-set references k (m .reference .number) ∙ inv .long;
             }
 
@@ -170,5 +173,6 @@ module _ (file : List ℕ) (parts : Sections) (sound : Sound edition file parts)
           records = ap (λ (st : Passed). st .records) whole;
           translates = λ x l. rw (← whole) (sym (translate-take p references x (parts .givens) l));
           below = λ x. translate-below p references x count (inv .there);
+          clear = λ j l. inv .clear j (omega arith);
           long = inv .long;
         }
