@@ -12,7 +12,7 @@ use Rattle.network.specs.Layout.{Sound}
 use Rattle.network.specs.Network.{edition, entriesOf, networkOf}
 use Rattle.network.specs.declared.Sections.{Sections}
 use Rattle.plan.specs.Measure.{operationsOf, roomIn}
-use Rattle.plan.specs.Plans.{planIn, Bounded}
+use Rattle.plan.specs.Plans.{planIn}
 use Rattle.plan.specs.declared.Plan.{Plan}
 use Rattle.records.specs.Bytes.{recordsIn}
 use Rattle.records.specs.Grown.{Table}
@@ -27,7 +27,6 @@ use Rattle.analyse.specs.Solved.{SolvedIn}
 pub record Fillable (file : List ℕ) (parts : Sections) (found : Plan) (out : List ℕ) : Type 0 where
   pub sound : Sound edition file parts
   pub planned : found ≡ planIn (networkOf file)
-  pub bounded : Bounded found
   pub allowed : operationsOf found ≤ 10000
   pub room : roomIn parts found ≤ length out
 
@@ -37,7 +36,7 @@ module _ (file : List ℕ) (parts : Sections) (found : Plan) (out : List ℕ) (a
   fill-variables = omega (arith, able .room)
 
   pub fill-fits : Fits found (parts .vertices)
-  fill-fits = plan-fits file parts (able .sound .layout) (able .sound .within) found (able .planned) (able .bounded)
+  fill-fits = plan-fits file parts (able .sound .layout) (able .sound .within) found (able .planned) (able .allowed)
 
   module _ (first : List ℕ) (e : first ≡ putNumbers out 0 (section single (networkOf file .variables))) where
     long : length first ≡ length out

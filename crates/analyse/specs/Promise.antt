@@ -19,7 +19,7 @@ use Rattle.network.specs.Layout.{sectionsOf, networkAnswer}
 use Rattle.network.specs.Network.{edition, networkOf}
 use Rattle.network.specs.Ranges.{sound}
 use Rattle.plan.specs.Measure.{roomFault, operationsOf, overIn, roomIn, over-fault, room-is}
-use Rattle.plan.specs.Plans.{planIn, Bounded}
+use Rattle.plan.specs.Plans.{planIn}
 use Rattle.plan.specs.declared.Plan.{Plan}
 use Rattle.reader.specs.Answers.{checkedOf}
 use Rattle.reader.specs.Callers.{reads-refused}
@@ -63,12 +63,11 @@ module _ (s before : List ℕ) where
           refusal faults.ResultRoom (rw (← good, ← over-fault (networkOf s) found e, ← o, h, ← w, ← is, lt-ltb _ _ m))
 
       -- It can be filled.
-      pub analyse-able : Bounded found → room ≤ length before → Fillable s parts found before
-      analyse-able b m =
+      pub analyse-able : room ≤ length before → Fillable s parts found before
+      analyse-able m =
           record {
             sound = sound edition s parts a;
             planned = e;
-            bounded = b;
             allowed = ltb-false 10000 (operationsOf found) (sym o ∙ h);
             room = omega arith;
           }

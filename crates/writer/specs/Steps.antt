@@ -17,7 +17,8 @@ use Rattle.network.specs.Lists.{starts-length}
 use Rattle.network.specs.Network.{Network, edition, networkOf}
 use Rattle.network.specs.declared.Sections.{Sections}
 use Rattle.plan.specs.declared.Plan.{Plan}
-use Rattle.plan.specs.Plans.{degreesOf, planIn, Bounded}
+use Rattle.plan.specs.Plans.{degreesOf, planIn}
+use Rattle.plan.specs.Measure.{operationsOf}
 use Rattle.plan.specs.PlanLaws.{order-at, degree-at, order-inside}
 use Rattle.writer.specs.Last.{stepAt, stepsIn, Fits}
 use Rattle.writer.specs.Lengths.{vertex-at, steps-long}
@@ -68,8 +69,8 @@ module _ (net : Network) (found : Plan) (e : found ≡ planIn net) where
 
 -- What `finish` asks of a plan.
 pub plan-fits : (s : List ℕ) (parts : Sections) → Layout s parts → Within edition parts → (found : Plan) → found ≡ planIn (networkOf s)
-    → Bounded found → Fits found (parts .vertices)
-plan-fits s parts layout within found e bounded =
+    → operationsOf found ≤ 10000 → Fits found (parts .vertices)
+plan-fits s parts layout within found e allowed =
     let net = networkOf s in
     let n = length (net .starts) in
     let g = linksOf (net .switches) in
@@ -77,6 +78,6 @@ plan-fits s parts layout within found e bounded =
     record {
       vertex = λ k h. omega (arith, order-inside net found e k (omega arith), within .vertices);
       degree = λ k h. omega (arith, degree-at net found e k (omega arith), degrees-most g (vertices n) (order n g) k, upTo-length n 0, within .vertices);
-      joins = omega (arith, bounded .joins);
-      work = omega (arith, bounded .work);
+      joins = omega arith;
+      work = omega arith;
     }
