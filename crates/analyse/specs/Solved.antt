@@ -21,7 +21,7 @@ use Rattle.plan.specs.PlanLaws.{order-inside}
 use Rattle.plan.specs.Plans.{padded, planFor, planIn}
 use Rattle.plan.specs.declared.Plan.{Plan}
 use Rattle.records.specs.Bytes.{recordsIn, putRecords}
-use Rattle.records.specs.Grown.{Table, grown-then, table-after}
+use Rattle.records.specs.Grown.{Table, grown-then, table-less, table-after}
 use Rattle.sheet.specs.Asks.{work}
 use Rattle.sheet.specs.Cells.{cellsIn}
 use Rattle.sheet.specs.Perform.{Sheet}
@@ -54,7 +54,8 @@ module _ (file : List ℕ) (parts : Sections) (sound : Sound edition file parts)
     -- There is room for the given formulas and the joins.
     pub wiring-table : Table (parts .variables) base (parts .givens + joinsOf (networkOf file .switches)) 0 out
     wiring-table =
-        record { orderly = table .orderly; room = omega (arith, table .room, joins-are); fits = omega (arith, table .fits, joins-are) }
+        table-less (parts .variables) base (parts .givens + operationsOf found) (parts .givens + joinsOf (networkOf file .switches))
+        (omega (arith, joins-are)) table
 
     module _ (cells links o : List ℕ) (m : ℕ) (is : WiredIn file parts base out cells links o m) where
       n-is : length (networkOf file .starts) ≡ parts .vertices

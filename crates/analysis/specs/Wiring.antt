@@ -34,11 +34,19 @@ setOrJoin p g u v r st = put (Label u v) (cond (g u v) (make p kindOr (st .cells
 
 -- The first switch of a pair sets both labels. Each later one joins: old or new, first end to second end, then back. A switch with equal ends is
 -- ignored.
-unfoldable pub wire : Network → Graph → Switch → Sheet → Sheet
-wire net g w st =
-    let p = length (net .variables) in
+unfoldable pub labelled : ℕ → Graph → Switch → Sheet → Sheet
+labelled p g w st =
     cond (eqb (w .first) (w .second)) st
-    (setOrJoin p g (w .second) (w .first) (translated net (w .back)) (setOrJoin p g (w .first) (w .second) (translated net (w .there)) st))
+    (setOrJoin p g (w .second) (w .first) (w .back) (setOrJoin p g (w .first) (w .second) (w .there) st))
+
+-- Labels are translated.
+unfoldable pub translateSwitch : ℕ → List ℕ → Switch → Switch
+translateSwitch p references w =
+    record { first = w .first; second = w .second; there = translate p references (w .there); back = translate p references (w .back) }
+
+-- One switch of a network.
+unfoldable pub wire : Network → Graph → Switch → Sheet → Sheet
+wire net g w = let p = length (net .variables) in labelled p g (translateSwitch p (passed net .references) w)
 
 -- All switches, in order; g has the links of those before.
 unfoldable pub wireAll : Network → Graph → List Switch → Sheet → Sheet

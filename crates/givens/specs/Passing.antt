@@ -7,9 +7,9 @@ use native.Mathlib.Numerals.{add-one}
 use borrow.Author.Tests.{lt-ltb, le-ltb, ltb-true, ltb-false}
 use lib.Dec.{ltb}
 use lib.ListN.{length, getD, set, take, drop, replicate, length-set, length-replicate}
-use lib.Seq.{drop-cons, drop-length, take-suc-set, getD-take, getD-set-same, getD-set-other}
-use Rattle.laws.specs.Tests.{byTest, bySame, byChoice}
-use Rattle.laws.specs.Places.{at-zeros}
+use lib.Seq.{drop-cons, drop-length, take-suc-set, getD-take, getD-set-other}
+use Rattle.laws.specs.Tests.{byTest, byChoice}
+use Rattle.laws.specs.Places.{at-zeros, set-below}
 use Rattle.form.specs.References.{formula}
 use Rattle.form.specs.declared.Record.{Record}
 use Rattle.formula.specs.Make.{make}
@@ -136,11 +136,8 @@ module _ (file : List ℕ) (parts : Sections) (sound : Sound edition file parts)
 
         -- Each entry of the array is there afterwards.
         there-more : (j : ℕ) → getD (set references k (m .reference .number)) j 0 < formula (parts .variables) (m .count)
-        there-more j =
-            let r = m .reference .number in
-            bySame j k
-            (λ e. rw (e, getD-set-same references k r 0 (omega (arith, inv .long, sound .within .givens))) new)
-            (λ d. rw (getD-set-other references k j r 0 d) (omega (arith, inv .there j, one .more)))
+        there-more =
+            set-below references k (m .reference .number) (formula (parts .variables) (m .count)) new (λ i. omega (arith, inv .there i, one .more))
 
         pub passing-more : Passing file parts base entry (set references k (m .reference .number)) after (m .count) (k + 1)
         unfolding pass

@@ -8,7 +8,7 @@ use lib.ListN.{length, getD}
 use Rattle.form.specs.References.{formula}
 use Rattle.links.specs.Lists.{upTo, vertices}
 use Rattle.records.specs.Bytes.{recordsIn}
-use Rattle.records.specs.Grown.{Table, Grown, grown-none, grown-then, grown-length, table-after}
+use Rattle.records.specs.Grown.{Table, Grown, grown-none, grown-then, grown-length, table-less, table-after}
 use Rattle.sheet.specs.Asks.{work}
 use Rattle.sheet.specs.AskLaws.{work-append}
 use Rattle.sheet.specs.Cells.{cellCount, cellsIn}
@@ -43,11 +43,7 @@ Ran p base xs cells out count cells′ out′ count′ = Runs p base (perform p 
 module _ (p base : ℕ) where
   -- With less to do there is room too.
   pub ready-less : (more less : ℕ) → less ≤ more → {c o : List ℕ} {n : ℕ} → Ready p base more c o n → Ready p base less c o n
-  ready-less more less h r =
-      record {
-        held = r .held;
-        table = record { orderly = r .table .orderly; room = omega (arith, r .table .room); fits = omega (arith, r .table .fits) };
-      }
+  ready-less more less h r = record { held = r .held; table = table-less p base more less h (r .table) }
 
   -- What is left can be done afterwards.
   pub ready-after : (f : Sheet → Sheet) (a b : ℕ) {c o c′ o′ : List ℕ} {n n′ : ℕ} → Ready p base (a + b) c o n → Runs p base f a c o n c′ o′ n′
@@ -87,11 +83,13 @@ pub record Looping (p base : ℕ) (turn : ℕ → List Ask) (n : ℕ) (c₀ o₀
   pub ready : Ready p base (work (flatMap turn (upTo (n - k) k))) cells out count
   pub same : length out ≡ length o₀
 
+-- Its laws take the plan of a turn, and of the whole, under whatever name the code has for it.
 module _ (p base : ℕ) (turn : ℕ → List Ask) (n : ℕ) {c₀ o₀ : List ℕ} {n₀ : ℕ} where
-  pub looping-none : Ready p base (work (flatMap turn (vertices n))) c₀ o₀ n₀ → Looping p base turn n c₀ o₀ n₀ 0 c₀ o₀ n₀
-  looping-none r =
+  pub looping-none : (whole : List Ask) → flatMap turn (vertices n) ≡ whole → Ready p base (work whole) c₀ o₀ n₀
+      → Looping p base turn n c₀ o₀ n₀ 0 c₀ o₀ n₀
+  looping-none whole w r =
       let e : n - 0 ≡ n = omega arith in
-      record { within = omega arith; done = []; split = rw e; ran = ran-none p base r; ready = rw e r; same = refl }
+      record { within = omega arith; done = []; split = rw e; ran = ran-none p base r; ready = rw (e, w) r; same = refl }
 
   module _ {k : ℕ} {cells out : List ℕ} {count : ℕ} (inv : Looping p base turn n c₀ o₀ n₀ k cells out count) where
     -- What is left begins with turn k.
@@ -99,12 +97,15 @@ module _ (p base : ℕ) (turn : ℕ → List Ask) (n : ℕ) {c₀ o₀ : List �
     unfolding flatMap
     begins h = let e : n - k ≡ suc (n - suc k) = omega arith in rw (add-one, e)
 
-    pub looping-turn : k < n → Ready p base (work (turn k)) cells out count
-    looping-turn h = ready-first p base (turn k) (flatMap turn (upTo (n - (k + 1)) (k + 1))) (rw (begins h) at (inv .ready))
+    pub looping-turn : k < n → (xs : List Ask) → xs ≡ turn k → Ready p base (work xs) cells out count
+    looping-turn h xs e =
+        rw e (ready-first p base (turn k) (flatMap turn (upTo (n - (k + 1)) (k + 1))) (rw (begins h) at (inv .ready)))
 
-    pub looping-more : k < n → {c o : List ℕ} {m : ℕ} → Ran p base (turn k) cells out count c o m → Looping p base turn n c₀ o₀ n₀ (k + 1) c o m
-    looping-more h x =
+    pub looping-more : k < n → (xs : List Ask) → xs ≡ turn k → {c o : List ℕ} {m : ℕ} → Ran p base xs cells out count c o m
+        → Looping p base turn n c₀ o₀ n₀ (k + 1) c o m
+    looping-more h xs e y =
         let rest = flatMap turn (upTo (n - (k + 1)) (k + 1)) in
+        let x = rw e at y in
         record {
           within = omega arith;
           done = inv .done ++ turn k;
@@ -114,9 +115,9 @@ module _ (p base : ℕ) (turn : ℕ → List Ask) (n : ℕ) {c₀ o₀ : List �
           same = grown-length p base (x .grown) ∙ inv .same;
         }
 
-    pub looping-all : n ≤ k → Ran p base (flatMap turn (vertices n)) c₀ o₀ n₀ cells out count
+    pub looping-all : n ≤ k → (whole : List Ask) → flatMap turn (vertices n) ≡ whole → Ran p base whole c₀ o₀ n₀ cells out count
     unfolding flatMap
-    looping-all h =
+    looping-all h whole w =
         let e : n - k ≡ 0 = omega arith in
-        let s : inv .done ≡ flatMap turn (vertices n) = sym (append-nil (inv .done)) ∙ (rw e at (inv .split)) in
+        let s : inv .done ≡ whole = sym (append-nil (inv .done)) ∙ (rw e at (inv .split)) ∙ w in
         rw s at (inv .ran)

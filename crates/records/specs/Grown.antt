@@ -72,6 +72,10 @@ module _ (p base : ℕ) where
   pub grown-length : {most : ℕ} {s t : List ℕ} {i j : ℕ} → Grown p base most s i t j → length t ≡ length s
   grown-length {s = s} {i = i} x = rw (x .bytes) (puts-length s (base + 6 * i) (x .added))
 
+  -- There is room for fewer.
+  pub table-less : (more less : ℕ) → less ≤ more → {count : ℕ} {s : List ℕ} → Table p base more count s → Table p base less count s
+  table-less more less h x = record { orderly = x .orderly; room = omega (arith, x .room); fits = omega (arith, x .fits) }
+
   -- There is room for the rest.
   pub table-after : (a b : ℕ) {s t : List ℕ} {i j : ℕ} → Table p base (a + b) i s → Grown p base a s i t j → Table p base b j t
   table-after a b x y =

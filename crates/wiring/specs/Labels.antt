@@ -1,11 +1,10 @@
 -- The labels of a switch: set where they are the first of their pair, and else joined.
-use mathlib.Core.Path.{_≡_, refl, sym, ap, _∙_}
+use mathlib.Core.Path.{_≡_, refl, ap, _∙_}
 use mathlib.Core.Bool.{Bool, true, false, cond}
 use mathlib.Core.List.{List, append-nil}
 use Prim.Native.Nat.{ℕ, _+_, _*_, _<_}
 use native.Mathlib.Omega.{arith}
 use borrow.Author.Tests.{eq-eqb, ne-eqb}
-use lib.Dec.{eqb}
 use lib.ListN.{length, getD, set}
 use Rattle.laws.specs.Tests.{byTest}
 use Rattle.form.specs.References.{kindOr, formula}
@@ -16,8 +15,9 @@ use Rattle.network.specs.Network.{side}
 use Rattle.network.specs.declared.Switch.{Switch}
 use Rattle.records.specs.declared.Made.{Made}
 use Rattle.records.specs.Bytes.{recordsIn}
-use Rattle.records.specs.Laws.{length-records, put-none}
+use Rattle.records.specs.Laws.{length-records}
 use Rattle.records.specs.Gives.{Room, Gives, Makes}
+use Rattle.records.specs.Rules.{gives-old}
 use Rattle.records.specs.Grown.{grown-none, grown-then, table-room}
 use Rattle.links.specs.Links.{Graph}
 use Rattle.links.specs.Switches.{joinsAt}
@@ -28,17 +28,11 @@ use Rattle.sheet.specs.declared.Cell.the-variants.{Label}
 use Rattle.operations.specs.Runs.{sheetIn, Ready, Runs, ready-less, ready-after}
 use Rattle.operations.specs.Ways.{runs-put}
 use Rattle.plan.specs.Matrix.{linksIn, is-linked, not-linked}
-use Rattle.analysis.specs.Wiring.{setOrJoin}
+use Rattle.analysis.specs.Wiring.{setOrJoin, labelled}
 
 -- The joins at the label from u to v: one where the pair has a label.
 abbrev pub joinAt : Graph → ℕ → ℕ → ℕ
 joinAt g u v = cond (g u v) 1 0
-
--- Both labels of a switch whose references are translated: first end to second end, then back. A switch with equal ends is ignored.
-unfoldable pub labelled : ℕ → Graph → Switch → Sheet → Sheet
-labelled p g w st =
-    cond (eqb (w .first) (w .second)) st
-    (setOrJoin p g (w .second) (w .first) (w .back) (setOrJoin p g (w .first) (w .second) (w .there) st))
 
 -- Both labels can be set or joined.
 pub record Labelling (p base : ℕ) (g : Graph) (w : Switch) (cells out : List ℕ) (count : ℕ) : Type 0 where
@@ -77,13 +71,7 @@ module _ (p base : ℕ) (links : List ℕ) (u v : ℕ) (hu : u < side) (hv : v <
   unfolding setOrJoin sheetIn outcome
   label-set e r hr written q =
       let m : Made = record { reference = record { number = r }; count = n } in
-      let alone : Gives (old r) base n s s m = record {
-        reference = refl;
-        count = omega arith;
-        bytes = sym (put-none s (base + 6 * n));
-        records = sym (append-nil (recordsIn s base n));
-      } in
-      let gives : Gives (outcome r (sheetIn cells s base n)) base n s s m = rw (not-linked links u v hv e) alone in
+      let gives : Gives (outcome r (sheetIn cells s base n)) base n s s m = rw (not-linked links u v hv e) (gives-old base n s m r refl refl) in
       rw q (runs-put p base (joinAt (linksIn links) u v) (outcome r) (Label u v) cells s s n m (hu, hv) (ready .held) (keeps r hr) gives)
 
   module _ (e : getD links (side * u + v) 0 ≡ 1) where

@@ -9,7 +9,7 @@ use Rattle.network.specs.Network.{edition, side, networkOf}
 use Rattle.network.specs.Layout.{Sound}
 use Rattle.network.specs.Lists.{variables-length}
 use Rattle.network.specs.declared.Sections.{Sections}
-use Rattle.records.specs.Grown.{Table, Grown, grown-then, table-after}
+use Rattle.records.specs.Grown.{Table, Grown, grown-then, table-less, table-after}
 use Rattle.givens.specs.Passed.{passedOf, PassedIn}
 use Rattle.links.specs.Switches.{noLinks, linksOf, joinsOf}
 use Rattle.sheet.specs.Perform.{Sheet}
@@ -32,7 +32,7 @@ module _ (file : List ℕ) (parts : Sections) (sound : Sound edition file parts)
     (table : Table (parts .variables) base (parts .givens + joinsOf (networkOf file .switches)) 0 out) where
   -- There is room for the given formulas.
   pub givens-table : Table (parts .variables) base (parts .givens) 0 out
-  givens-table = record { orderly = table .orderly; room = omega (arith, table .room); fits = omega (arith, table .fits) }
+  givens-table = table-less (parts .variables) base (parts .givens + joinsOf (networkOf file .switches)) (parts .givens) (omega arith) table
 
   module _ (references o : List ℕ) (n : ℕ) (all : PassedIn file parts base out references o n) where
     passed-is : passedOf file parts ≡ passed (networkOf file)

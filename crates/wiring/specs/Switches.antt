@@ -21,18 +21,13 @@ use Rattle.sheet.specs.Perform.{Sheet}
 use Rattle.operations.specs.Runs.{sheetIn, Ready, Runs, ready-less, ready-after}
 use Rattle.plan.specs.Matrix.{linksIn, Bits, none-linked, no-bits}
 use Rattle.plan.specs.Wire.{Connects, connected-bits}
-use Rattle.analysis.specs.Wiring.{translated, wire, wireAll}
-use Rattle.wiring.specs.Labels.{labelled, Labelling}
+use Rattle.analysis.specs.Wiring.{translated, labelled, translateSwitch, wire, wireAll}
+use Rattle.wiring.specs.Labels.{Labelling}
 
 -- The array translates the file's references to the result's, and each that it gives is there.
 pub record Translating (file : List ℕ) (parts : Sections) (references : List ℕ) (count : ℕ) : Type 0 where
   pub is : (x : ℕ) → x < definedIn parts → translate (parts .variables) references x ≡ translated (networkOf file) x
   pub below : (x : ℕ) → translate (parts .variables) references x < formula (parts .variables) count
-
--- A switch with its labels translated.
-unfoldable pub translateSwitch : ℕ → List ℕ → Switch → Switch
-translateSwitch p references w =
-    record { first = w .first; second = w .second; there = translate p references (w .there); back = translate p references (w .back) }
 
 -- A switch can be wired.
 pub record Wirable (p base : ℕ) (references cells links out : List ℕ) (count : ℕ) (w : Switch) : Type 0 where
@@ -113,7 +108,7 @@ module _ (file : List ℕ) (parts : Sections) (sound : Sound edition file parts)
   -- Its labels, translated, are the definition's.
   step : (references : List ℕ) (n : ℕ) → Translating file parts references n → (g : Graph)
       → labelled (parts .variables) g (translateSwitch (parts .variables) references w) ≡ wire (networkOf file) g w
-  unfolding labelled translateSwitch wire
+  unfolding translated translateSwitch wire
   step references n t g =
       fun-ext (λ st. rw (t .is (w .there) (read .range .there), t .is (w .back) (read .range .back), ← variables-length (sound .layout)))
 

@@ -10,9 +10,9 @@ ghost use Rattle.links.specs.Switches.{link, joinsAt, noLinks, linksOf, joinsOf
 ghost use Rattle.sheet.specs.Cells.{cellCount};
 ghost use Rattle.operations.specs.Runs.{Ready, Runs};
 ghost use Rattle.plan.specs.Matrix.{linksIn};
-ghost use Rattle.analysis.specs.Wiring.{setOrJoin, wireAll};
-ghost use Rattle.wiring.specs.Labels.{joinAt, labelled, Labelling};
-ghost use Rattle.wiring.specs.Switches.{Translating, translateSwitch, Wirable, Wires};
+ghost use Rattle.analysis.specs.Wiring.{setOrJoin, labelled, translateSwitch, wireAll};
+ghost use Rattle.wiring.specs.Labels.{joinAt, Labelling};
+ghost use Rattle.wiring.specs.Switches.{Translating, Wirable, Wires};
 ghost use Rattle.wiring.specs.Starts.{Started};
 ghost use Rattle.wiring.specs.Sheet.{WiredIn};
 use form::Reference;

@@ -11,7 +11,7 @@ use Rattle.analysis.specs.Result.{section, single, stepEntry}
 use Rattle.form.specs.Numbers.{wordAt, putWord, putNumbers}
 use Rattle.form.specs.Writing.{numbers-length, numbers-append}
 use Rattle.network.specs.Layout.{Layout, coilPlace}
-use Rattle.network.specs.Lists.{variables-length, variable-at}
+use Rattle.network.specs.Lists.{variable-at}
 use Rattle.network.specs.Network.{side, networkOf}
 use Rattle.network.specs.declared.Sections.{Sections}
 use Rattle.plan.specs.declared.Plan.{Plan}
@@ -19,7 +19,7 @@ use Rattle.sheet.specs.Cells.{cellsIn, cell-at}
 use Rattle.sheet.specs.declared.Cell.{Cell}
 use Rattle.sheet.specs.declared.Cell.the-variants.{Start}
 use Rattle.writer.specs.Last.{answersIn, stepAt, stepsIn, figuresIn, lastNumbers, recordsAt, answersAt, stepsAt, figuresAt, Fits, Finished}
-use Rattle.writer.specs.Lengths.{vertex-at, answers-long, steps-long, answers-section, steps-section}
+use Rattle.writer.specs.Lengths.{vertex-at, answers-section, steps-section}
 
 -- The first k of n entries, of so many bytes each, are written from a place on: those that are left give the whole.
 pub record Entering {A : Type 0} (entry : A → List ℕ) (size n : ℕ) (xs : List A) (at : ℕ) (before after : List ℕ) (k : ℕ) : Type 0 where
@@ -29,7 +29,7 @@ pub record Entering {A : Type 0} (entry : A → List ℕ) (size n : ℕ) (xs : L
   pub left : putNumbers after (at + size * k) (flatMap entry (drop k xs)) ≡ putNumbers before at (flatMap entry xs)
 
 module _ {A : Type 0} (entry : A → List ℕ) (size n : ℕ) (xs : List A) where
-  entering-none : (at : ℕ) (before : List ℕ) → length xs ≡ n → Entering entry size n xs at before before 0
+  pub entering-none : (at : ℕ) (before : List ℕ) → length xs ≡ n → Entering entry size n xs at before before 0
   entering-none at before e =
       let place : at + size * 0 ≡ at = omega (arith, mul-zero size) in
       record { within = omega arith; count = e; long = refl; left = rw place }
@@ -60,9 +60,6 @@ module _ {A : Type 0} (entry : A → List ℕ) (size n : ℕ) (xs : List A) wher
 
 -- The loop of `write_variables`.
 module _ (s : List ℕ) (parts : Sections) (layout : Layout s parts) (before : List ℕ) where
-  pub variables-none : Entering single 2 (parts .variables) (networkOf s .variables) 2 before before 0
-  variables-none = entering-none single 2 (parts .variables) (networkOf s .variables) 2 before (variables-length layout)
-
   pub variables-more : (after : List ℕ) (k : ℕ) → Entering single 2 (parts .variables) (networkOf s .variables) 2 before after k
       → k < parts .variables → (x : ℕ) → x ≡ wordAt s (coilPlace k) → (next : List ℕ) → next ≡ putWord after (2 + 2 * k) x
       → Entering single 2 (parts .variables) (networkOf s .variables) 2 before next (k + 1)
@@ -77,9 +74,6 @@ puts-answer cells v h s t at a = a ∙ ap (putWord s at) (cell-at cells (Start v
 
 -- The loop of `write_answers`.
 module _ (cells : Cell → ℕ) (n at : ℕ) (before : List ℕ) where
-  pub answers-none : Entering single 2 n (answersIn cells n) at before before 0
-  answers-none = entering-none single 2 n (answersIn cells n) at before (answers-long cells n)
-
   pub answers-more : (after : List ℕ) (v : ℕ) → Entering single 2 n (answersIn cells n) at before after v → v < n
       → (next : List ℕ) → next ≡ putWord after (at + 2 * v) (cells (Start v)) → Entering single 2 n (answersIn cells n) at before next (v + 1)
   unfolding putNumbers answersIn
@@ -94,9 +88,6 @@ puts-step s t u at vertex degree a b = cc
 
 -- The loop of `write_steps`.
 module _ (found : Plan) (n at : ℕ) (before : List ℕ) where
-  pub steps-none : Entering stepEntry 4 n (stepsIn found n) at before before 0
-  steps-none = entering-none stepEntry 4 n (stepsIn found n) at before (steps-long found n)
-
   pub steps-more : (after : List ℕ) (k : ℕ) → Entering stepEntry 4 n (stepsIn found n) at before after k → k < n
       → (next : List ℕ) → next ≡ putNumbers after (at + 4 * k) (getD (found .order) k 0 ∷ getD (found .degrees) k 0 ∷ [])
       → Entering stepEntry 4 n (stepsIn found n) at before next (k + 1)

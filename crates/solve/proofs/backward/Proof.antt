@@ -1,8 +1,7 @@
 -- `solve::backward` meets its contract: the invariant and its laws are those of `Looping`.
 use Prim.Native.Nat.{_-_}
-use Rattle.operations.specs.Runs.{Looping}
-use Rattle.solve.specs.Turns.{backTurn}
-use Rattle.solve.specs.Ways.{backward-none, backward-turn, backward-more, backward-all}
+use Rattle.operations.specs.Runs.{Looping, looping-none, looping-turn, looping-more, looping-all}
+use Rattle.solve.specs.Turns.{backTurn, backward-turns}
 use borrow.Author.Needs.{needs}
 use Rattle.solve.proofs.backward.Statement.{statement}
 use Rattle.solve.proofs.backward.Tie as tie
@@ -19,10 +18,10 @@ backward-spec =
     (tie.spec
     Inv-loop
     μ-loop
-    (λ c. search (backward-none, needs))
-    (λ c κs. (search (backward-turn, needs), search needs))
+    (λ c. search (looping-none, backward-turns, needs))
+    (λ c κs. (search (looping-turn, needs), search needs))
     (λ c. search needs)
     (λ c. search needs)
-    (λ c. search (backward-more, needs))
+    (λ c. search (looping-more, needs))
     (λ c. search needs)
-    (λ c. search (backward-all, needs)))
+    (λ c. search (looping-all, backward-turns, needs)))

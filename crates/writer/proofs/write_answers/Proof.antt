@@ -3,7 +3,8 @@ use Prim.Native.Nat.{_+_, _-_}
 use Rattle.analysis.specs.Result.{single}
 use Rattle.sheet.specs.Cells.{cellsIn}
 use Rattle.writer.specs.Last.{answersIn}
-use Rattle.writer.specs.Entering.{Entering, entering-done, answers-none, answers-more}
+use Rattle.writer.specs.Lengths.{answers-long}
+use Rattle.writer.specs.Entering.{Entering, entering-none, entering-done, answers-more}
 use borrow.Author.Needs.{needs}
 use Rattle.writer.proofs.write_answers.Statement.{statement}
 use Rattle.writer.proofs.write_answers.Tie as tie
@@ -21,7 +22,7 @@ write-answers-spec =
     Inv-loop
     μ-loop
     (λ c κs. search needs)
-    (λ c. search answers-none)
+    (λ c. search (entering-none, answers-long))
     (λ c. search needs)
     (λ c. search needs)
     (λ c. search needs)

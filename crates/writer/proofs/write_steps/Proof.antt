@@ -2,7 +2,8 @@
 use Prim.Native.Nat.{_+_, _-_}
 use Rattle.analysis.specs.Result.{stepEntry}
 use Rattle.writer.specs.Last.{stepsIn}
-use Rattle.writer.specs.Entering.{Entering, entering-done, steps-none, steps-more, vertex-fits, degree-fits}
+use Rattle.writer.specs.Lengths.{steps-long}
+use Rattle.writer.specs.Entering.{Entering, entering-none, entering-done, steps-more, vertex-fits, degree-fits}
 use borrow.Author.Needs.{needs}
 use Rattle.writer.proofs.write_steps.Statement.{statement}
 use Rattle.writer.proofs.write_steps.Tie as tie
@@ -20,7 +21,7 @@ write-steps-spec =
     Inv-loop
     μ-loop
     (λ c κs. search needs)
-    (λ c. search steps-none)
+    (λ c. search (entering-none, steps-long))
     (λ c. search needs)
     (λ c. search needs)
     (λ c. search needs)

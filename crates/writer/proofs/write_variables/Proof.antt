@@ -2,7 +2,8 @@
 use Prim.Native.Nat.{_-_}
 use Rattle.analysis.specs.Result.{single}
 use Rattle.network.specs.Network.{networkOf}
-use Rattle.writer.specs.Entering.{Entering, entering-done, variables-none, variables-more}
+use Rattle.network.specs.Lists.{variables-length}
+use Rattle.writer.specs.Entering.{Entering, entering-none, entering-done, variables-more}
 use borrow.Author.Needs.{needs}
 use Rattle.writer.proofs.write_variables.Statement.{statement}
 use Rattle.writer.proofs.write_variables.Tie as tie
@@ -20,7 +21,7 @@ write-variables-spec =
     Inv-loop
     μ-loop
     (λ c κs. search needs)
-    (λ c. search variables-none)
+    (λ c. search (entering-none, variables-length))
     (λ c κs. search needs)
     (λ c. search needs)
     (λ c. search needs)
