@@ -5,6 +5,7 @@ use lib.ListN.{length}
 use Rattle.elimination.specs.Plan.{planOf, workOf}
 use Rattle.form.specs.Numbers.{bytesOf}
 use Rattle.form.specs.References.{recordEntry}
+use Rattle.form.specs.declared.Record.{Record}
 use Rattle.links.specs.Lists.{vertices}
 use Rattle.links.specs.Links.{Step, order, steps}
 use Rattle.links.specs.Switches.{linksOf, joinsOf}
@@ -17,7 +18,7 @@ use Rattle.analysis.specs.Wiring.{wired}
 unfoldable pub eliminated : Network → Sheet
 eliminated net = perform (length (net .variables)) (planOf (length (net .starts)) (linksOf (net .switches))) (wired net)
 
--- Each section after its count.
+-- A section: its entries after their count.
 abbrev pub section : {A : Type 0} → (A → List ℕ) → List A → List ℕ
 section entry xs = length xs ∷ flatMap entry xs
 
@@ -28,18 +29,37 @@ single n = n ∷ []
 abbrev pub stepEntry : Step → List ℕ
 stepEntry s = s .vertex ∷ s .degree ∷ []
 
--- Five sections: variables as given; records; vertices (reference to answer); order (vertex, degree); figures, count 3: given formulas, joins, work.
-unfoldable pub resultNumbers : Network → List ℕ
-resultNumbers net =
+-- What a result says: coil numbers, records, references to answers, pivots, figures.
+pub record Stored : Type 0 where
+  pub variables : List ℕ
+  pub records : List Record
+  pub answers : List ℕ
+  pub order : List Step
+  pub figures : List ℕ
+
+-- Variables as given; records; vertices (reference to answer); order (vertex, degree); figures: given formulas, joins, work.
+unfoldable pub resultIn : Network → Stored
+resultIn net =
     let n = length (net .starts) in
     let g = linksOf (net .switches) in
     let done = eliminated net in
-    section single (net .variables)
-    ++ (section recordEntry (done .records)
-    ++ (section single (map (λ v. done .cells (Start v)) (vertices n))
-    ++ (section stepEntry (steps g (vertices n) (order n g))
-    ++ section single (length (net .givens) ∷ joinsOf (net .switches) ∷ workOf n g ∷ []))))
+    record {
+      variables = net .variables;
+      records = done .records;
+      answers = map (λ v. done .cells (Start v)) (vertices n);
+      order = steps g (vertices n) (order n g);
+      figures = length (net .givens) ∷ joinsOf (net .switches) ∷ workOf n g ∷ [];
+    }
+
+-- Five sections in this order, each after its count.
+unfoldable pub resultNumbers : Stored → List ℕ
+resultNumbers r =
+    section single (r .variables)
+    ++ (section recordEntry (r .records)
+    ++ (section single (r .answers)
+    ++ (section stepEntry (r .order)
+    ++ section single (r .figures))))
 
 -- All numbers are again 16 bits, low byte first.
 unfoldable pub resultOf : Network → List ℕ
-resultOf net = bytesOf (resultNumbers net)
+resultOf net = bytesOf (resultNumbers (resultIn net))

@@ -130,6 +130,6 @@ unfolding
     sheets.setCell sheets.put sheets.andThen sheets.product sheets.asked sheets.perform
     plans.forward plans.backward plans.plan
     wiring.passed wiring.translated wiring.starting wiring.setOrJoin wiring.wire wiring.wireAll wiring.wired
-    result.eliminated result.resultNumbers result.resultOf
+    result.eliminated result.resultIn result.resultNumbers result.resultOf
     measures.operations measures.roomFor measures.operationsFault measures.roomFault whole.analysisFault whole.analysis
 table-holds m = row-holds table refl m

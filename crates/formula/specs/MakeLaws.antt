@@ -35,7 +35,8 @@ unfolding Orderly
 orderly-none p = λ k h. absurd (omega arith)
 
 module _ (p : ℕ) (records : List Record) (orderly : Orderly p records) where
-  keeps-old : (most r : ℕ) → r < formula p (length records) → Keeps p most records (old r)
+  -- A reference that is there.
+  pub keeps-old : (most r : ℕ) → r < formula p (length records) → Keeps p most records (old r)
   keeps-old most r h = record { few = omega arith; below = omega arith; orderly = rw (append-nil records) orderly }
 
   keeps-enter : (x : Record) → Earlier (formula p (length records)) x → Keeps p 1 records (enter p x records)
@@ -52,7 +53,8 @@ module _ (p : ℕ) (records : List Record) (orderly : Orderly p records) where
           (λ l. rw (List·getD-append records (x ∷ []) none k l) (orderly k l))
           (eq-or-lt-of-le h)
 
-  named-first : (a : ℕ) → a < formula p (length records) → named p a records .first < formula p (length records)
+  -- The first argument of a record that is named is there.
+  pub named-first : (a : ℕ) → a < formula p (length records) → named p a records .first < formula p (length records)
   unfolding named Orderly
   named-first a h =
       byChoice (λ (x : Record). x .first < formula p (length records)) (ltb a (formula p 0)) _ _

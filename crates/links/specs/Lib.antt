@@ -4,4 +4,5 @@ pub mod Switches
 pub mod ListLaws
 pub mod Sums
 pub mod OrderLaws
+pub mod Orders
 pub mod Symmetry

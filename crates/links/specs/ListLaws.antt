@@ -1,15 +1,15 @@
 -- Laws of lists of vertices: what passes a test, where a number is least, and numbers in a row.
-use mathlib.Core.Path.{_≡_, refl, ap, _∙_}
-use mathlib.Core.Logic.{_≢_}
-use mathlib.Core.Bool.{Bool, true, false, not, cond, _&&_}
-use mathlib.Core.List.{List, [], _∷_, List·Memᴰ, List·Memᴰ·head, List·Memᴰ·tail, List·Memᴰ·not-nil}
+use mathlib.Core.Path.{_≡_, refl, ap, sym, _∙_}
+use mathlib.Core.Logic.{_≢_, ⊎-elim}
+use mathlib.Core.Bool.{Bool, true, false, not, cond, _&&_, _||_, and-comm}
+use mathlib.Core.List.{List, [], _∷_, map, List·Memᴰ, List·Memᴰ·head, List·Memᴰ·tail, List·Memᴰ·not-nil, List·Memᴰ·cases-cons, List·Memᴰ·eq-of-singleton}
 use Prim.Native.Nat.{ℕ, zero, suc, _+_, _<_, _≤_}
 use native.Mathlib.Omega.{arith}
-use borrow.Author.Tests.{eqb-false, eq-eqb, ne-eqb, not-true}
+use borrow.Author.Tests.{eqb-false, eq-eqb, ne-eqb, not-true, ltb-true, ltb-false}
 use lib.Dec.{eqb, ltb}
-use lib.ListN.{length, getD}
-use Rattle.laws.specs.Tests.{byTest}
-use Rattle.links.specs.Lists.{keep, without, lowest, upTo}
+use lib.ListN.{length, getD, length-map}
+use Rattle.laws.specs.Tests.{byTest, bySame}
+use Rattle.links.specs.Lists.{keep, without, lowest, upTo, vertices}
 
 -- Each is below those after it.
 abbrev pub Ascending : List ℕ → Type 0
@@ -39,6 +39,16 @@ pub without-in : (p : ℕ) (vs : List ℕ) {v : ℕ} → List·Memᴰ v (without
 without-in p vs {v} m =
     let k = keep-in (λ u. not (eqb p u)) vs m in (k .0, eqb-false p v (not-true (eqb p v) (k .1)))
 
+-- What is there and passes is kept,
+pub in-keep : (f : ℕ → Bool) (vs : List ℕ) {v : ℕ} → List·Memᴰ v vs → f v ≡ true → List·Memᴰ v (keep f vs)
+in-keep f (u ∷ us) (List·Memᴰ·head e) h = let t = rw e at h in rw t (List·Memᴰ·head e)
+in-keep f (u ∷ us) (List·Memᴰ·tail m) h =
+    let k = in-keep f us m h in byTest (f u) (λ t. rw t (List·Memᴰ·tail k)) (λ t. rw t k)
+
+-- so another than p is left without p.
+pub in-without : (p : ℕ) (vs : List ℕ) {v : ℕ} → List·Memᴰ v vs → p ≢ v → List·Memᴰ v (without p vs)
+in-without p vs {v} m d = in-keep (λ u. not (eqb p u)) vs m (rw (ne-eqb p v d))
+
 -- Tests that agree on a list pass the same.
 pub keep-same : (f h : ℕ → Bool) (vs : List ℕ) → ((v : ℕ) → List·Memᴰ v vs → f v ≡ h v) → keep f vs ≡ keep h vs
 keep-same f h [] e = refl
@@ -54,12 +64,25 @@ pub keep-keep : (f h : ℕ → Bool) (vs : List ℕ) → keep f (keep h vs) ≡ 
 keep-keep f h [] = refl
 keep-keep f h (v ∷ vs) = byTest (h v) (λ e. rw (e, keep-keep f h vs)) (λ e. rw (e, keep-keep f h vs))
 
+-- It makes no difference which of two tests comes first.
+pub keep-swap : (f h : ℕ → Bool) (vs : List ℕ) → keep f (keep h vs) ≡ keep h (keep f vs)
+keep-swap f h vs = keep-keep f h vs ∙ keep-same _ _ vs (λ v m. and-comm (h v) (f v)) ∙ sym (keep-keep h f vs)
+
 -- No more pass than there are.
 pub keep-shorter : (f : ℕ → Bool) (vs : List ℕ) → length (keep f vs) ≤ length vs
 keep-shorter f [] = omega arith
 keep-shorter f (v ∷ vs) =
     let below : length (keep f vs) ≤ length vs = keep-shorter f vs in
     byTest (f v) (λ e. rw e (omega arith)) (λ e. rw e (omega arith))
+
+-- No more pass one test or the other than pass each.
+pub keep-or : (f h : ℕ → Bool) (vs : List ℕ) → length (keep (λ v. f v || h v) vs) ≤ length (keep f vs) + length (keep h vs)
+keep-or f h [] = omega arith
+keep-or f h (v ∷ vs) =
+    let below : length (keep (λ u. f u || h u) vs) ≤ length (keep f vs) + length (keep h vs) = keep-or f h vs in
+    byTest (f v)
+    (λ e. rw e (byTest (h v) (λ q. rw q (omega arith)) (λ q. rw q (omega arith))))
+    (λ e. rw e (byTest (h v) (λ q. rw q (omega arith)) (λ q. rw q below)))
 
 -- What passes stays in order.
 pub ascending-keep : (f : ℕ → Bool) (vs : List ℕ) → Ascending vs → Ascending (keep f vs)
@@ -86,7 +109,19 @@ lowest-in D best (v ∷ vs) =
     skip (List·Memᴰ·head e) = List·Memᴰ·head e
     skip (List·Memᴰ·tail m) = List·Memᴰ·tail (List·Memᴰ·tail m)
 
--- Numbers in a row: where they lie, their order, and how many they are.
+-- The number is no less at any other.
+pub lowest-least : (D : ℕ → ℕ) (best : ℕ) (vs : List ℕ) (u : ℕ) → List·Memᴰ u (best ∷ vs) → D (lowest D best vs) ≤ D u
+lowest-least D best [] u m = rw (List·Memᴰ·eq-of-singleton m) (omega arith)
+lowest-least D best (v ∷ vs) u m =
+    let c = cond (ltb (D v) (D best)) v best in
+    let least : (D c ≤ D v) × (D c ≤ D best)
+    = byTest (ltb (D v) (D best)) (λ t. rw t (omega (arith, ltb-true))) (λ t. rw t (omega (arith, ltb-false))) in
+    let here = lowest-least D c vs c (List·Memᴰ·head refl) in
+    ⊎-elim (λ e. omega (arith, ap D e))
+    (λ i. ⊎-elim (λ e. omega (arith, ap D e)) (λ j. lowest-least D c vs u (List·Memᴰ·tail j)) (List·Memᴰ·cases-cons i))
+    (List·Memᴰ·cases-cons m)
+
+-- Numbers in a row: where they lie, their order, how many they are, and which.
 pub upTo-bounds : (n i : ℕ) {v : ℕ} → List·Memᴰ v (upTo n i) → (i ≤ v) × (v < i + n)
 upTo-bounds zero i m = absurd (List·Memᴰ·not-nil m)
 upTo-bounds (suc n) i (List·Memᴰ·head e) = omega arith
@@ -99,3 +134,21 @@ upTo-ascending (suc n) i = ((λ u m. upTo-bounds n (suc i) m .0), upTo-ascending
 pub upTo-length : (n i : ℕ) → length (upTo n i) ≡ n
 upTo-length zero i = refl
 upTo-length (suc n) i = ap suc (upTo-length n (suc i))
+
+pub upTo-in : (n i v : ℕ) → i ≤ v → v < i + n → List·Memᴰ v (upTo n i)
+upTo-in zero i v l h = absurd (omega arith)
+upTo-in (suc n) i v l h =
+    bySame v i (λ e. List·Memᴰ·head e) (λ d. List·Memᴰ·tail (upTo-in n (suc i) v (omega arith) (omega arith)))
+
+-- A list with an entry for each vertex.
+module _ {A : Type 0} (f : ℕ → A) where
+  from-at : (n i k : ℕ) (d : A) → k < n → getD (map f (upTo n i)) k d ≡ f (i + k)
+  from-at zero i k d h = absurd (omega arith)
+  from-at (suc n) i zero d h = ap f (omega arith)
+  from-at (suc n) i (suc k) d h = from-at n (suc i) k d (omega arith) ∙ ap f (omega arith)
+
+  pub vertex-at : (n k : ℕ) (d : A) → k < n → getD (map f (vertices n)) k d ≡ f k
+  vertex-at n k d h = from-at n 0 k d h ∙ ap f (omega arith)
+
+  pub vertices-long : (n : ℕ) → length (map f (vertices n)) ≡ n
+  vertices-long n = length-map (vertices n) f ∙ upTo-length n 0

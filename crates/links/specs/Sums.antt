@@ -1,7 +1,7 @@
 -- Sums over lists of vertices, and the loop that adds the terms of the vertices up.
 use mathlib.Core.Path.{_≡_, refl}
 use mathlib.Core.Bool.{Bool, cond}
-use mathlib.Core.List.{List, [], _∷_}
+use mathlib.Core.List.{List, [], _∷_, List·Memᴰ, List·Memᴰ·head, List·Memᴰ·tail}
 use Prim.Native.Nat.{ℕ, suc, _+_, _*_, _-_, _<_, _≤_}
 use native.Mathlib.Omega.{arith}
 use native.Mathlib.Numerals.{add-one}
@@ -39,6 +39,14 @@ pub total-add : (f h : ℕ → ℕ) (vs : List ℕ) → total f vs + total h vs 
 unfolding total
 total-add f h [] = refl
 total-add f h (v ∷ vs) = omega (arith, total-add f h vs)
+
+-- Where no term is above b, the sum is at most b for each.
+pub total-most : (f : ℕ → ℕ) (b : ℕ) (vs : List ℕ) → ((v : ℕ) → List·Memᴰ v vs → f v ≤ b) → total f vs ≤ b * length vs
+unfolding total
+total-most f b [] most = omega arith
+total-most f b (v ∷ vs) most =
+    let below = total-most f b vs (λ u m. most u (List·Memᴰ·tail m)) in
+    rw mul-suc (omega (arith, most v (List·Memᴰ·head refl)))
 
 -- The terms of the vertices below i have been added, none of them above b.
 pub record Summing (f : ℕ → ℕ) (b n i sum : ℕ) : Type 0 where

@@ -1,14 +1,13 @@
--- One operation after another: what the two give, and what they keep.
+-- One operation after another: what the two give.
 use mathlib.Core.Path.{_≡_, sym, ap, _∙_, subst}
-use mathlib.Core.Bool.{Bool, true, false, cond}
+use mathlib.Core.Bool.{Bool, true, false}
 use mathlib.Core.List.{List, _++_, append-assoc}
-use Prim.Native.Nat.{ℕ, _+_, _*_, _<_}
+use Prim.Native.Nat.{ℕ, _+_, _*_}
 use native.Mathlib.Omega.{arith}
 use lib.ListN.{length, length-append}
-use Rattle.form.specs.References.{kindAnd, kindOr, formula}
+use Rattle.form.specs.References.{kindAnd, kindOr}
 use Rattle.form.specs.declared.Record.{Record}
 use Rattle.formula.specs.Make.{Outcome, make}
-use Rattle.formula.specs.MakeLaws.{Orderly, Keeps, keeps-make}
 use Rattle.records.specs.declared.Made.{Made}
 use Rattle.records.specs.Bytes.{recordsIn, putRecords}
 use Rattle.records.specs.Laws.{puts-append}
@@ -52,21 +51,3 @@ pub makes-alone : (base n : ℕ) (s t : List ℕ) (m : Made) (p was a b : ℕ) (
     → Makes (make p kindAnd a b) base n s t m → Makes (product p joined was a b) base n s t m
 unfolding product
 makes-alone base n s t m p was a b joined e x = rw e x
-
-module _ (p : ℕ) (records : List Record) (orderly : Orderly p records) (was a b : ℕ) (hw : was < formula p (length records))
-    (ha : a < formula p (length records)) (hb : b < formula p (length records)) where
-  -- Both stay in order.
-  pub keeps-product : (joined : Bool) → Keeps p (cond joined 2 1) records (product p joined was a b records)
-  unfolding product andThen
-  keeps-product false = keeps-make p records orderly kindAnd a b ha hb
-  keeps-product true =
-      let o = make p kindAnd a b records in
-      let x = keeps-make p records orderly kindAnd a b ha hb in
-      let l = length-append records (o .added) in
-      let q = make p kindOr was (o .reference) (records ++ o .added) in
-      let y = keeps-make p (records ++ o .added) (x .orderly) kindOr was (o .reference) (omega arith) (omega (arith, x .below)) in
-      record {
-        few = omega (arith, x .few, y .few, length-append (o .added) (q .added));
-        below = omega (arith, y .below, length-append (o .added) (q .added));
-        orderly = rw (← append-assoc) (y .orderly);
-      }

@@ -20,10 +20,10 @@ use Rattle.records.specs.Grown.{Table, Grown, grown-given, grown-made, made-bel
 use Rattle.sheet.specs.Asks.{work}
 use Rattle.sheet.specs.Cells.{cellCount, cellsIn, placeOf, Inside, cell-at, cell-set}
 use Rattle.sheet.specs.Perform.{Sheet, setCell, put, product, asked, perform}
+use Rattle.sheet.specs.PerformLaws.{keeps-product}
 use Rattle.sheet.specs.declared.Ask.{Ask}
 use Rattle.sheet.specs.declared.Cell.{Cell}
 use Rattle.sheet.specs.declared.Cell.the-variants.{Start, Label}
-use Rattle.operations.specs.Then.{keeps-product}
 use Rattle.operations.specs.Runs.{sheetIn, Held, Ready, Runs, Ran}
 
 -- Where a cell is.

@@ -14,8 +14,8 @@ pub record Sheet : Type 0 where
   pub cells : Cell → ℕ
   pub records : List Record
 
--- A reference goes into a cell.
-unfoldable pub setCell : Cell → ℕ → (Cell → ℕ) → Cell → ℕ
+-- Something goes into a cell.
+unfoldable pub setCell : {X : Type 0} → Cell → X → (Cell → X) → Cell → X
 setCell to r cells = λ c. cond (sameCell to c) r (cells c)
 
 -- An outcome's reference goes into a cell, and its record after the others.

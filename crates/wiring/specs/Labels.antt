@@ -1,7 +1,7 @@
 -- The labels of a switch: set where they are the first of their pair, and else joined.
 use mathlib.Core.Path.{_≡_, refl, ap, _∙_}
 use mathlib.Core.Bool.{Bool, true, false, cond}
-use mathlib.Core.List.{List, append-nil}
+use mathlib.Core.List.{List}
 use Prim.Native.Nat.{ℕ, _+_, _*_, _<_}
 use native.Mathlib.Omega.{arith}
 use borrow.Author.Tests.{eq-eqb, ne-eqb}
@@ -10,7 +10,7 @@ use Rattle.laws.specs.Tests.{byTest}
 use Rattle.form.specs.References.{kindOr, formula}
 use Rattle.form.specs.declared.Record.{Record}
 use Rattle.formula.specs.Make.{Outcome, old, make}
-use Rattle.formula.specs.MakeLaws.{Orderly, Keeps, keeps-make}
+use Rattle.formula.specs.MakeLaws.{Keeps}
 use Rattle.network.specs.Network.{side}
 use Rattle.network.specs.declared.Switch.{Switch}
 use Rattle.records.specs.declared.Made.{Made}
@@ -24,6 +24,7 @@ use Rattle.links.specs.Switches.{joinsAt}
 use Rattle.links.specs.Symmetry.{Symmetric}
 use Rattle.sheet.specs.Cells.{cellsIn, placeOf, cell-at}
 use Rattle.sheet.specs.Perform.{Sheet}
+use Rattle.sheet.specs.PerformLaws.{keeps-label}
 use Rattle.sheet.specs.declared.Cell.the-variants.{Label}
 use Rattle.operations.specs.Runs.{sheetIn, Ready, Runs, ready-less, ready-after}
 use Rattle.operations.specs.Ways.{runs-put}
@@ -42,12 +43,6 @@ pub record Labelling (p base : ℕ) (g : Graph) (w : Switch) (cells out : List �
   pub back : w .back < formula p count
   pub symmetric : Symmetric g
   pub ready : Ready p base (joinsAt w g) cells out count
-
--- A label that is set, or old or new, is there.
-keeps-label : (p : ℕ) (records : List Record) → Orderly p records → (was r : ℕ) → was < formula p (length records) → r < formula p (length records)
-    → (t : Bool) → Keeps p (cond t 1 0) records (cond t (make p kindOr was r records) (old r))
-keeps-label p records o was r hw hr true = keeps-make p records o kindOr was r hw hr
-keeps-label p records o was r hw hr false = record { few = omega arith; below = omega arith; orderly = rw (append-nil records) o }
 
 -- The ways out of `set_or_join`.
 module _ (p base : ℕ) (links : List ℕ) (u v : ℕ) (hu : u < side) (hv : v < side) (cells s : List ℕ) (n : ℕ)

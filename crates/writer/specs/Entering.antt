@@ -18,8 +18,9 @@ use Rattle.plan.specs.declared.Plan.{Plan}
 use Rattle.sheet.specs.Cells.{cellsIn, cell-at}
 use Rattle.sheet.specs.declared.Cell.{Cell}
 use Rattle.sheet.specs.declared.Cell.the-variants.{Start}
+use Rattle.links.specs.ListLaws.{vertex-at}
 use Rattle.writer.specs.Last.{answersIn, stepAt, stepsIn, figuresIn, lastNumbers, recordsAt, answersAt, stepsAt, figuresAt, Fits, Finished}
-use Rattle.writer.specs.Lengths.{vertex-at, answers-section, steps-section}
+use Rattle.writer.specs.Lengths.{answers-section, steps-section}
 
 -- The first k of n entries, of so many bytes each, are written from a place on: those that are left give the whole.
 pub record Entering {A : Type 0} (entry : A → List ℕ) (size n : ℕ) (xs : List A) (at : ℕ) (before after : List ℕ) (k : ℕ) : Type 0 where

@@ -1,4 +1,4 @@
--- How long the sections are, and what stands at a place of a list by vertex.
+-- How long the sections are.
 use mathlib.Core.Path.{_≡_, refl, ap, _∙_}
 use mathlib.Core.List.{_++_, map, flatMap}
 use Prim.Native.Nat.{ℕ, zero, suc, _+_, _*_, _<_}
@@ -6,26 +6,12 @@ use native.Mathlib.Omega.{arith}
 use lib.ListN.{length, getD, length-append, length-map}
 use Rattle.laws.specs.Flat.{flat-length}
 use Rattle.analysis.specs.Result.{section, single, stepEntry}
-use Rattle.links.specs.Lists.{upTo, vertices}
-use Rattle.links.specs.ListLaws.{upTo-length}
+use Rattle.links.specs.ListLaws.{vertices-long}
 use Rattle.network.specs.declared.Sections.{Sections}
 use Rattle.plan.specs.declared.Plan.{Plan}
 use Rattle.sheet.specs.declared.Cell.{Cell}
 use Rattle.sheet.specs.declared.Cell.the-variants.{Start}
 use Rattle.writer.specs.Last.{answersIn, stepAt, stepsIn, figuresIn, lastNumbers}
-
--- A list with an entry for each vertex.
-module _ {A : Type 0} (f : ℕ → A) where
-  from-at : (n i k : ℕ) (d : A) → k < n → getD (map f (upTo n i)) k d ≡ f (i + k)
-  from-at zero i k d h = absurd (omega arith)
-  from-at (suc n) i zero d h = ap f (omega arith)
-  from-at (suc n) i (suc k) d h = from-at n (suc i) k d (omega arith) ∙ ap f (omega arith)
-
-  pub vertex-at : (n k : ℕ) (d : A) → k < n → getD (map f (vertices n)) k d ≡ f k
-  vertex-at n k d h = from-at n 0 k d h ∙ ap f (omega arith)
-
-  vertices-long : (n : ℕ) → length (map f (vertices n)) ≡ n
-  vertices-long n = length-map (vertices n) f ∙ upTo-length n 0
 
 pub answers-long : (cells : Cell → ℕ) (n : ℕ) → length (answersIn cells n) ≡ n
 unfolding answersIn

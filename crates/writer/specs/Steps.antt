@@ -9,7 +9,7 @@ use lib.ListN.{length, getD, length-map, List·getD-map}
 use lib.Seq.{ext-getD}
 use Rattle.links.specs.Lists.{without, vertices}
 use Rattle.links.specs.Links.{Graph, Step, beside, gone, order, steps}
-use Rattle.links.specs.ListLaws.{keep-shorter, upTo-length}
+use Rattle.links.specs.ListLaws.{keep-shorter, upTo-length, vertex-at}
 use Rattle.links.specs.OrderLaws.{order-length}
 use Rattle.links.specs.Switches.{linksOf}
 use Rattle.network.specs.Layout.{Layout, Within}
@@ -21,7 +21,7 @@ use Rattle.plan.specs.Plans.{degreesOf, planIn}
 use Rattle.plan.specs.Measure.{operationsOf}
 use Rattle.plan.specs.PlanLaws.{order-at, degree-at, order-inside}
 use Rattle.writer.specs.Last.{stepAt, stepsIn, Fits}
-use Rattle.writer.specs.Lengths.{vertex-at, steps-long}
+use Rattle.writer.specs.Lengths.{steps-long}
 
 -- The vertices of the steps are the order.
 vertices-of : (g : Graph) (vs ps : List ℕ) → map (λ s. s .vertex) (steps g vs ps) ≡ ps

@@ -5,7 +5,7 @@ use Prim.Native.Nat.{ℕ, _+_, _*_, _≤_}
 use native.Mathlib.Omega.{arith}
 use lib.ListN.{length, drop, length-append}
 use Rattle.laws.specs.Flat.{flat-length}
-use Rattle.analysis.specs.Result.{eliminated, section, single, resultNumbers, resultOf}
+use Rattle.analysis.specs.Result.{eliminated, section, single, resultIn, resultNumbers, resultOf}
 use Rattle.elimination.specs.Plan.{workOf}
 use Rattle.form.specs.Numbers.{putWord, putNumbers}
 use Rattle.form.specs.References.{recordEntry}
@@ -44,9 +44,9 @@ figures-are net found e = rw e
 module _ (s : List ℕ) (parts : Sections) (layout : Layout s parts) (found : Plan) (e : found ≡ planIn (networkOf s)) (cells : Cell → ℕ)
     (c : cells ≡ eliminated (networkOf s) .cells) where
   -- The five sections, and how long they are.
-  numbers-are : resultNumbers (networkOf s)
+  numbers-are : resultNumbers (resultIn (networkOf s))
       ≡ section single (networkOf s .variables) ++ (section recordEntry (eliminated (networkOf s) .records) ++ lastNumbers parts found cells)
-  unfolding resultNumbers lastNumbers answersIn
+  unfolding resultNumbers resultIn lastNumbers answersIn
   numbers-are =
       let n = starts-length layout in
       let g = givens-length layout in
@@ -59,7 +59,7 @@ module _ (s : List ℕ) (parts : Sections) (layout : Layout s parts) (found : Pl
     records-long : length (section recordEntry (eliminated (networkOf s) .records)) ≡ 1 + 3 * count
     records-long = omega (arith, flat-length recordEntry 3 (λ x. refl) (eliminated (networkOf s) .records))
 
-    whole-long : 2 * length (resultNumbers (networkOf s)) ≡ resultLength parts count
+    whole-long : 2 * length (resultNumbers (resultIn (networkOf s))) ≡ resultLength parts count
     whole-long =
         let xs = section single (networkOf s .variables) in
         let ys = section recordEntry (eliminated (networkOf s) .records) in
@@ -71,7 +71,7 @@ module _ (s : List ℕ) (parts : Sections) (layout : Layout s parts) (found : Pl
         → first ≡ putNumbers before 0 (section single (networkOf s .variables))
         → second ≡ putRecords first (4 + 2 * parts .variables) (eliminated (networkOf s) .records)
         → Finished parts found cells count second after r
-        → after ≡ putNumbers before 0 (resultNumbers (networkOf s))
+        → after ≡ putNumbers before 0 (resultNumbers (resultIn (networkOf s)))
     unfolding putRecords
     all-written before first second after r p q done =
         let rs = eliminated (networkOf s) .records in
@@ -97,7 +97,7 @@ pub whole : (s : List ℕ) (parts : Sections) → Layout s parts → (found : Pl
     → Whole (networkOf s) before after r
 unfolding resultOf
 whole s parts layout found e cells c count m before first second after r room p q done =
-    let ns = resultNumbers (networkOf s) in
+    let ns = resultNumbers (resultIn (networkOf s)) in
     let l = whole-long s parts layout found e (cellsIn cells) c count m in
     let bytes = bytes-length ns in
     record {
