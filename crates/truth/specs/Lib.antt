@@ -1,0 +1,11 @@
+pub mod Systems
+pub mod Booleans
+pub mod Solutions
+pub mod Carry
+pub mod CarryLaws
+pub mod Neighbours
+pub mod Past
+pub mod Writes
+pub mod Forward
+pub mod Backward
+pub mod Theorem

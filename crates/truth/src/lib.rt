@@ -1,0 +1,1 @@
+// What an elimination answers, on any carrier: Theorem 4. (Definitions and laws in specs/.)
