@@ -1,0 +1,9 @@
+pub mod Ranged
+pub mod Made
+pub mod Sheets
+pub mod SheetLaws
+pub mod Passed
+pub mod System
+pub mod Labels
+pub mod Wired
+pub mod Answers
