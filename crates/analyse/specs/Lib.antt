@@ -1,3 +1,4 @@
 pub mod Solved
 pub mod Filled
 pub mod Promise
+pub mod Unique

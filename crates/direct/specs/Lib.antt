@@ -3,3 +3,4 @@ pub mod Marks
 pub mod Sweep
 pub mod Solve
 pub mod Promise
+pub mod Unique
