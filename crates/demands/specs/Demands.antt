@@ -1,0 +1,99 @@
+-- The three demands on the analyser, about every call of `analyse` and of `direct`. Each is derived in a line or two from where it is proved.
+use mathlib.Core.Path.{_≡_}
+use mathlib.Core.Logic.{_↔_}
+use mathlib.Core.Bool.{So}
+use mathlib.Core.List.{List, _++_, List·Memᴰ}
+use Prim.Native.Nat.{ℕ, _+_, _*_, _<_, _≤_}
+use lib.ListN.{length, drop}
+use Rattle.analyse.specs.Promise as analyse
+use Rattle.analyse.specs.Unique as analysed
+use Rattle.analysis.specs.Analysis.{analysisFault, analysis}
+use Rattle.analysis.specs.Result.{Stored, resultOf}
+use Rattle.costs.specs.Built.{Built}
+use Rattle.costs.specs.Closed.{costs}
+use Rattle.direct.specs.Direct.{directFault, directAnswer, Answered}
+use Rattle.direct.specs.Promise as direct
+use Rattle.direct.specs.Unique as answered
+use Rattle.elimination.specs.Plan.{workOf}
+use Rattle.form.specs.Refusals.{accepted, replyOf}
+use Rattle.form.specs.declared.Reply.{Reply}
+use Rattle.links.specs.Links.{Graph, Step, order}
+use Rattle.links.specs.Lists.{vertices}
+use Rattle.links.specs.Switches.{linksOf}
+use Rattle.meaning.specs.System.{systemOf}
+use Rattle.network.specs.Network.{edition, networkOf}
+use Rattle.paths.specs.Paths.{Reached}
+use Rattle.stored.specs.Stored.{storedOf, givensFigure, joinsFigure, workFigure}
+use Rattle.stored.specs.Truths.{truthIn}
+use Rattle.truth.specs.Systems.{Solution}
+use Rattle.demands.specs.Outcomes.{AnswersOrRefuses, result-or-refusal, answer-or-refusal}
+
+-- A call of `analyse`: the file s, the lent buffer before and after, and the reply r.
+module _ (s before after : List ℕ) (r : Reply) (call : analyse.Promise s before after r) where
+  -- DEMAND 1. Every byte string is analysed, or refused with the number and the place of its first fault and the buffer as it came, and never both.
+  -- Ruled out: refusing everything, another cause or place, a byte written before a refusal or beyond the result.
+  pub analysed-or-refused : let result = resultOf (networkOf s) in
+      AnswersOrRefuses (analysisFault edition s (length before)) r (length result) (after ≡ result ++ drop (length result) before) before after
+  unfolding analysis
+  analysed-or-refused = result-or-refusal (analysisFault edition s (length before)) r _ before after (call .reply) (call .bytes)
+
+  -- Where it is answered: the stored result, the network's n vertices and its bare links g.
+  module _ (written : ℕ) (is : replyOf r ≡ accepted written) where
+    abbrev stored : Stored
+    stored = storedOf after
+
+    abbrev n : ℕ
+    n = length (networkOf s .starts)
+
+    abbrev g : Graph
+    g = linksOf (networkOf s .switches)
+
+    -- DEMAND 2. Under every setting of the coils, a vertex's stored formula, read off the stored records, is true exactly when some path, possibly of
+    -- no contacts, leads to it from a vertex whose own starting formula is true, through contacts whose labels are true in the direction travelled.
+    -- Ruled out: formula 0 everywhere, one answer for all files, no records, a path left out, a label taken the wrong way round.
+    pub formulas-are-paths : (setting : List ℕ) → length setting ≡ length (networkOf s .variables) → (v : ℕ) → v < n
+        → So (truthIn stored setting v) ↔ Reached (networkOf s) setting v
+    formulas-are-paths = analyse.told-answered call written is .truths .paths
+
+    -- In the paper's words: the truths satisfy the network's equations (definition 4), and are the least that do (definition 5).
+    pub formulas-solve : (setting : List ℕ) → length setting ≡ length (networkOf s .variables)
+        → Solution (systemOf (networkOf s) setting) (vertices n) (truthIn stored setting)
+    formulas-solve = analyse.told-answered call written is .truths .solution
+
+    -- DEMAND 3. The reported work is the number of operations that figure 1 asks for on the bare links. Ruled out: an invented figure.
+    pub work-is-asked : workFigure stored ≡ workOf n g
+    work-is-asked = analyse.told-answered call written is .figures .work
+
+    -- That is the sum of 2d + 2d² − 2f over the pivots, and at most 2(n³ − n)/3, the sum of 2d + 2d² over all d below n.
+    pub work-is-cost : workFigure stored ≡ costs g (vertices n) (order n g)
+    work-is-cost = analyse.told-answered call written is .figures .cost
+
+    pub work-at-most : 3 * workFigure stored + 2 * n ≤ 2 * n * n * n
+    work-at-most = analyse.told-answered call written is .figures .most
+
+    -- Records never exceed given formulas plus joins plus work.
+    pub records-few : length (stored .records) ≤ givensFigure stored + joinsFigure stored + workFigure stored
+    records-few = analyse.told-answered call written is .figures .few
+
+    -- A network is built from nothing by adding terminals, each linked to none, to one, or to two that are then linked to each other (that link kept
+    -- or dropped), exactly when no pivot is reported with over two neighbours left; and then the work is at most twelve for each vertex.
+    pub built-iff-narrow : Built g (vertices n) ↔ ((p : Step) → List·Memᴰ p (stored .order) → p .degree ≤ 2)
+    built-iff-narrow = analyse.told-answered call written is .figures .narrow
+
+    pub built-work-twelve : Built g (vertices n) → workFigure stored ≤ 12 * n
+    built-work-twelve = analyse.told-answered call written is .figures .twelve
+
+-- A call of `direct` is answered by the path rule, a byte for each vertex, or refused in the same way, and never both (demands 1 and 2).
+pub direct-or-refused : (s setting before after : List ℕ) (r : Reply) → direct.Promise s setting before after r → let net = networkOf s in
+    AnswersOrRefuses (directFault edition s setting (length before)) r (length (net .starts)) (Answered net setting before after) before after
+unfolding directAnswer
+direct-or-refused s setting before after r call =
+    answer-or-refusal (directFault edition s setting (length before)) r _ _ setting before after (call .reply) (call .bytes)
+
+-- The reply and every lent byte of a call are determined by what it was given (demand 1): two outcomes that are allowed coincide.
+pub analysed-one-way : (s before x y : List ℕ) (r q : Reply) → analyse.Promise s before x r → analyse.Promise s before y q → (r ≡ q) × (x ≡ y)
+analysed-one-way = analysed.unique
+
+pub direct-one-way : (s setting before x y : List ℕ) (r q : Reply)
+    → direct.Promise s setting before x r → direct.Promise s setting before y q → (r ≡ q) × (x ≡ y)
+direct-one-way = answered.unique

@@ -1,0 +1,1 @@
+// The three demands on the analyser, stated and proved. (specs/Demands.antt is the page to open first.)
