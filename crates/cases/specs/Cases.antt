@@ -1,22 +1,26 @@
--- K1 to K9 and F1 to F4, as one table under a single claim.
+-- K1 to K9, F1 to F4 and example L, as one table under a single claim.
 use mathlib.Core.Path.{_≡_, refl, ap₂}
 use mathlib.Core.Bool.{Bool, true, false, _&&_, false≢true}
 use mathlib.Core.List.{List, [], _∷_, map, flatMap, List·Memᴰ, List·Memᴰ·head, List·Memᴰ·tail}
-use Prim.Native.Nat.{ℕ, _-_}
+use Prim.Native.Nat.{ℕ}
 use borrow.Author.Tests.{eqb-true}
 use lib.Dec.{eqb}
 use lib.ListN.{length, replicate}
 use Rattle.analysis.specs.Analysis.{analysis}
+use Rattle.analysis.specs.Result.{stepEntry, resultIn, resultOf}
 use Rattle.elimination.specs.Plan.{plan, workOf}
-use Rattle.form.specs.Numbers.{bytesOf}
+use Rattle.form.specs.Numbers.{bytesOf, bitOf}
+use Rattle.form.specs.References.{recordEntry}
 use Rattle.form.specs.Refusals.{Answer, refused, accepted}
 use Rattle.laws.specs.Tests.{both-true}
 use Rattle.links.specs.Lists.{upTo, vertices}
 use Rattle.links.specs.Links.{Graph, Step, order, steps}
 use Rattle.links.specs.Switches.{linksOf, joinsOf}
-use Rattle.network.specs.Network.{edition}
+use Rattle.network.specs.Network.{Network, edition, networkOf}
 use Rattle.network.specs.declared.Switch.{Switch}
 use Rattle.sheet.specs.Asks.{work}
+use Rattle.stored.specs.Stored.{storedOf}
+use Rattle.stored.specs.Truths.{truthIn}
 use Rattle.analysis.specs.Wiring as wiring
 use Rattle.analysis.specs.Result as result
 use Rattle.analysis.specs.Analysis as whole
@@ -24,12 +28,14 @@ use Rattle.elimination.specs.Plan as plans
 use Rattle.form.specs.Numbers as numbers
 use Rattle.formula.specs.Givens as givens
 use Rattle.formula.specs.Make as making
+use Rattle.formula.specs.Worth as worths
 use Rattle.links.specs.Switches as switches
 use Rattle.network.specs.Faults as faults
 use Rattle.network.specs.Network as networks
 use Rattle.plan.specs.Measure as measures
 use Rattle.sheet.specs.Asks as asks
 use Rattle.sheet.specs.Perform as sheets
+use Rattle.stored.specs.Stored as storing
 
 -- A switch with both labels 0, which links its ends all the same.
 abbrev pub bare : ℕ → ℕ → Switch
@@ -59,6 +65,14 @@ degrees n g = map (λ (s : Step). s .degree) (steps g (vertices n) (order n g))
 abbrev pub outcome : Answer (List ℕ) → List ℕ
 outcome (refused number place) = number ∷ place ∷ []
 outcome (accepted bytes) = length bytes ∷ []
+
+-- Example L: coils 7 and 9; no given formulas; starts 1, 0, 0; switches (0,1,2,2) and (1,2,3,3).
+abbrev pub exampleL : Network
+exampleL = networkOf (bytesOf (2 ∷ 7 ∷ 9 ∷ 0 ∷ 3 ∷ 1 ∷ 0 ∷ 0 ∷ 2 ∷ 0 ∷ 1 ∷ 2 ∷ 2 ∷ 1 ∷ 2 ∷ 3 ∷ 3 ∷ []))
+
+-- The truths of its vertices under a setting, read back from the bytes of its result.
+abbrev pub truthsL : List ℕ → List ℕ
+truthsL setting = map (λ v. bitOf (truthIn (storedOf (resultOf exampleL)) setting v)) (vertices 3)
 
 -- What the definitions give, beside what the outline says.
 abbrev pub table : List (List ℕ × List ℕ)
@@ -90,6 +104,17 @@ table =
     ∷ (outcome (analysis edition (replicate 9 0) 65536), 7 ∷ 8 ∷ [])
     -- F4 first count 201: 2 at 0
     ∷ (outcome (analysis edition (bytesOf (201 ∷ [])) 65536), 2 ∷ 0 ∷ [])
+    -- L: four records, and 2 3, and 3 4, or 2 5, and 2 6; formulas 1, 6 and 4
+    ∷ (flatMap recordEntry (resultIn exampleL .records), 1 ∷ 2 ∷ 3 ∷ 1 ∷ 3 ∷ 4 ∷ 2 ∷ 2 ∷ 5 ∷ 1 ∷ 2 ∷ 6 ∷ [])
+    ∷ (resultIn exampleL .answers, 1 ∷ 6 ∷ 4 ∷ [])
+    -- pivots 0, 1 and 2 with degrees 1, 1 and 0; no given formulas, joins 0, work 8
+    ∷ (flatMap stepEntry (resultIn exampleL .order), 0 ∷ 1 ∷ 1 ∷ 1 ∷ 2 ∷ 0 ∷ [])
+    ∷ (resultIn exampleL .figures, 0 ∷ 0 ∷ 8 ∷ [])
+    -- vertex 1 is joined to the source where coil 7 is on, vertex 2 where both are
+    ∷ (truthsL (0 ∷ 0 ∷ []), 1 ∷ 0 ∷ 0 ∷ [])
+    ∷ (truthsL (1 ∷ 0 ∷ []), 1 ∷ 1 ∷ 0 ∷ [])
+    ∷ (truthsL (0 ∷ 1 ∷ []), 1 ∷ 0 ∷ 0 ∷ [])
+    ∷ (truthsL (1 ∷ 1 ∷ []), 1 ∷ 1 ∷ 1 ∷ [])
     ∷ []
 
 -- Two lists of numbers are the same; the two sides of every row are.
@@ -129,7 +154,8 @@ unfolding
     asks.sameCell asks.work
     sheets.setCell sheets.put sheets.andThen sheets.product sheets.asked sheets.perform
     plans.forward plans.backward plans.plan
-    wiring.passed wiring.translated wiring.starting wiring.setOrJoin wiring.wire wiring.wireAll wiring.wired
+    wiring.passed wiring.translated wiring.starting wiring.setOrJoin wiring.labelled wiring.translateSwitch wiring.wire wiring.wireAll wiring.wired
     result.eliminated result.resultIn result.resultNumbers result.resultOf
     measures.operations measures.roomFor measures.operationsFault measures.roomFault whole.analysisFault whole.analysis
+    storing.storedOf worths.operate worths.evaluate worths.worth
 table-holds m = row-holds table refl m
