@@ -64,19 +64,19 @@ module _ (s before after : List ℕ) (r : Reply) (call : analyse.Promise s befor
     pub work-is-asked : workFigure stored ≡ workOf n g
     work-is-asked = analyse.told-answered call written is .figures .work
 
-    -- That is the sum of 2d + 2d² − 2f over the pivots, and at most 2(n³ − n)/3, the sum of 2d + 2d² over all d below n.
+    -- It is the sum of 2d + 2d² − 2f over the pivots (no fill link counts twice), and at most 2(n³ − n)/3, the sum of 2d + 2d² over all d below n.
     pub work-is-cost : workFigure stored ≡ costs g (vertices n) (order n g)
     work-is-cost = analyse.told-answered call written is .figures .cost
 
     pub work-at-most : 3 * workFigure stored + 2 * n ≤ 2 * n * n * n
     work-at-most = analyse.told-answered call written is .figures .most
 
-    -- Records never exceed given formulas plus joins plus work.
+    -- Records never exceed given formulas plus joins plus work. Ruled out: a record that nothing asked for.
     pub records-few : length (stored .records) ≤ givensFigure stored + joinsFigure stored + workFigure stored
     records-few = analyse.told-answered call written is .figures .few
 
     -- A network is built from nothing by adding terminals, each linked to none, to one, or to two that are then linked to each other (that link kept
-    -- or dropped), exactly when no pivot is reported with over two neighbours left; and then the work is at most twelve for each vertex.
+    -- or dropped), exactly when no reported pivot has over two neighbours left, and then costs at most twelve a vertex. Ruled out: pivots out of turn.
     pub built-iff-narrow : Built g (vertices n) ↔ ((p : Step) → List·Memᴰ p (stored .order) → p .degree ≤ 2)
     built-iff-narrow = analyse.told-answered call written is .figures .narrow
 
