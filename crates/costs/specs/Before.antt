@@ -1,14 +1,14 @@
 -- What is left when a terminal with at most two neighbours goes is the network before it was added.
 use mathlib.Core.Path.{_≡_, refl, sym, _∙_}
-use mathlib.Core.Bool.{true, not, and-false, or-false, or-true}
+use mathlib.Core.Bool.{true, and-false, or-false, or-true}
 use mathlib.Core.List.{List, [], _∷_, List·Memᴰ, List·Memᴰ·head, List·Memᴰ·tail, List·Memᴰ·not-nil, List·Memᴰ·eq-of-singleton}
 use Prim.Native.Nat.{ℕ}
-use borrow.Author.Tests.{eq-eqb, ne-eqb}
-use lib.Dec.{eqb}
-use Rattle.laws.specs.Tests.{both-true, byTest, bySame}
+use borrow.Author.Tests.{eq-eqb}
+use Rattle.laws.specs.Tests.{byTest, bySame}
 use Rattle.links.specs.Lists.{without}
 use Rattle.links.specs.Links.{Graph, beside, neighbours, gone}
-use Rattle.links.specs.ListLaws.{in-keep, keep-in, keep-same, without-in}
+use Rattle.links.specs.ListLaws.{keep-same}
+use Rattle.links.specs.Neighbours.{neighbours-in, in-neighbours}
 use Rattle.links.specs.Symmetry.{Symmetric}
 use Rattle.costs.specs.Built.{Linked, AsBefore, AsBeforeBut}
 
@@ -16,21 +16,18 @@ module _ (g : Graph) (s : Symmetric g) (vs : List ℕ) (w : ℕ) where
   -- Once w is gone, two of its neighbours ns are linked.
   gone-pair : (ns : List ℕ) → neighbours g vs w ≡ ns → {u v : ℕ} → List·Memᴰ u ns → List·Memᴰ v ns → gone w g u v ≡ true
   unfolding Symmetric
-  gone-pair ns e {u} {v} mu mv =
-      let linked : (x : ℕ) → List·Memᴰ x ns → g w x ≡ true
-      = λ x m. both-true (not (eqb w x)) (g w x) (keep-in (beside g w) vs {v = x} (rw e m) .1) .1 in
-      rw (s u w, linked u mu, linked v mv, or-true)
+  gone-pair ns e {u} {v} mu mv = rw (s u w, neighbours-in g vs w {v = u} (rw e mu) .1, neighbours-in g vs w {v = v} (rw e mv) .1, or-true)
 
   -- Any other two are as before.
   gone-other : (ns : List ℕ) → neighbours g vs w ≡ ns → {u v : ℕ} → List·Memᴰ u (without w vs) → List·Memᴰ v (without w vs)
       → (List·Memᴰ u ns → List·Memᴰ v ns → ⊥) → g u v ≡ gone w g u v
   unfolding Symmetric
   gone-other ns e {u} {v} mu mv other =
-      let near : (x : ℕ) → List·Memᴰ x (without w vs) → g w x ≡ true → List·Memᴰ x ns
-      = λ x m t. let i = without-in w vs m in rw (← e) (in-keep (beside g w) vs (i .0) (rw (ne-eqb w x (i .1), t))) in
       rw (s u w)
       (byTest (g w u)
-      (λ tu. byTest (g w v) (λ tv. absurd (other (near u mu tu) (near v mv tv))) (λ fv. rw (fv, and-false, or-false)))
+      (λ tu. byTest (g w v)
+      (λ tv. absurd (other (rw (← e) (in-neighbours g vs w mu tu)) (rw (← e) (in-neighbours g vs w mv tv))))
+      (λ fv. rw (fv, and-false, or-false)))
       (λ fu. rw (fu, or-false)))
 
   -- Where w has no neighbour, all are as before.

@@ -1,5 +1,5 @@
 -- A bound on the work of every order, by the number of vertices alone.
-use mathlib.Core.Path.{_≡_, refl, sym, ap}
+use mathlib.Core.Path.{_≡_, refl, ap}
 use mathlib.Core.Bool.{not}
 use mathlib.Core.List.{List}
 use Prim.Native.Nat.{ℕ, zero, suc, _+_, _*_, _≤_}
@@ -8,9 +8,10 @@ use native.Mathlib.Omega.{arith}
 use lib.Dec.{eqb}
 use lib.ListN.{length}
 use Rattle.laws.specs.Tests.{byTest}
-use Rattle.links.specs.Lists.{keep, without, vertices}
+use Rattle.links.specs.Lists.{without, vertices}
 use Rattle.links.specs.Links.{Graph, beside, neighbours, degree, gone, order}
-use Rattle.links.specs.ListLaws.{Ascending, keep-keep, keep-shorter, ascending-keep, without-length, upTo-ascending, upTo-length}
+use Rattle.links.specs.ListLaws.{Ascending, keep-shorter, ascending-keep, without-length, upTo-ascending, upTo-length}
+use Rattle.links.specs.Neighbours.{neighbours-others}
 use Rattle.links.specs.Sums.{total-most}
 use Rattle.links.specs.Orders.{TakesAll, none-left, taken, order-takes}
 use Rattle.sheet.specs.Asks.{work}
@@ -45,11 +46,7 @@ pivot-most g ns a =
           omega (arith, without-length v ns a m)),
     )
 
--- A vertex's neighbours are those of the others that are linked to it.
-pub neighbours-others : (g : Graph) (vs : List ℕ) (p : ℕ) → neighbours g vs p ≡ keep (g p) (without p vs)
-neighbours-others g vs p = sym (keep-keep (g p) (λ v. not (eqb p v)) vs)
-
--- So they are no more than the others.
+-- A vertex's neighbours are no more than the others.
 degree-most : (g : Graph) (vs : List ℕ) (p : ℕ) → degree g vs p ≤ length (without p vs)
 degree-most g vs p = rw (neighbours-others g vs p) (keep-shorter (g p) (without p vs))
 

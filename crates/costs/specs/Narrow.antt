@@ -24,9 +24,9 @@ use Rattle.links.specs.ListLaws.{
   lowest-in,
   lowest-least,
 }
+use Rattle.links.specs.Neighbours.{neighbours-others}
 use Rattle.links.specs.Orders.{TakesAll, none-left, taken}
 use Rattle.links.specs.Symmetry.{Symmetric, symmetric-gone}
-use Rattle.costs.specs.Bounds.{neighbours-others}
 
 -- No pivot of an order has more than two neighbours when it is taken.
 abbrev pub Few : Graph → List ℕ → List ℕ → Type 0

@@ -1,5 +1,6 @@
 pub mod Make
 pub mod MakeLaws
 pub mod Givens
+pub mod GivenLaws
 pub mod Worth
 pub mod WorthLaws

@@ -4,15 +4,16 @@ use mathlib.Core.List.{List, []}
 use Prim.Native.Nat.{ℕ, suc, _+_, _-_, _≤_, _<_}
 use native.Mathlib.Omega.{arith}
 use native.Mathlib.Numerals.{add-one}
-use borrow.Author.Tests.{lt-ltb, le-ltb, ltb-true, ltb-false}
+use borrow.Author.Tests.{lt-ltb, le-ltb, ltb-true}
 use lib.Dec.{ltb}
 use lib.ListN.{length, getD, set, take, drop, replicate, length-set, length-replicate}
-use lib.Seq.{drop-cons, drop-length, take-suc-set, getD-take, getD-set-other}
-use Rattle.laws.specs.Tests.{byTest, byChoice}
+use lib.Seq.{drop-cons, drop-length, take-suc-set, getD-set-other}
+use Rattle.laws.specs.Tests.{byChoice}
 use Rattle.laws.specs.Places.{at-zeros, set-below}
 use Rattle.form.specs.References.{formula}
 use Rattle.form.specs.declared.Record.{Record}
 use Rattle.formula.specs.Make.{make}
+use Rattle.formula.specs.GivenLaws.{translate-take}
 use Rattle.formula.specs.Givens.{Passed, translate, passOne, pass}
 use Rattle.network.specs.declared.Sections.{Sections}
 use Rattle.network.specs.Network.{edition, entriesOf, networkOf}
@@ -36,14 +37,6 @@ module _ (p : ℕ) (references : List ℕ) (x : ℕ) where
   translate-high h =
       let e : x - formula p 0 ≡ x - (2 + p) = omega arith in
       rw (le-ltb x (formula p 0) (omega arith), e)
-
-  -- The first k references are enough for what the first k given formulas define.
-  translate-take : (k : ℕ) → x < formula p k → translate p (take k references) x ≡ translate p references x
-  unfolding translate
-  translate-take k h =
-      byTest (ltb x (formula p 0))
-      (λ t. rw t)
-      (λ t. let l : formula p 0 ≤ x = ltb-false _ _ t in rw t (getD-take k references (x - formula p 0) 0 (omega arith)))
 
   -- Where each entry of the array is there, so is what a reference is translated to.
   translate-below : (count : ℕ) → ((j : ℕ) → getD references j 0 < formula p count) → translate p references x < formula p count

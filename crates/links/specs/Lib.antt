@@ -2,6 +2,7 @@ pub mod Lists
 pub mod Links
 pub mod Switches
 pub mod ListLaws
+pub mod Neighbours
 pub mod Sums
 pub mod OrderLaws
 pub mod Orders

@@ -1,17 +1,16 @@
 -- What the given formulas of a network become means what they mean in the file.
-use mathlib.Core.Path.{_≡_, refl}
+use mathlib.Core.Path.{_≡_, refl, sym}
 use mathlib.Core.Logic.{⊎-elim}
 use mathlib.Core.List.{List, [], _∷_, _++_, append-nil}
-use Prim.Native.Nat.{ℕ, _-_, _<_, _≤_}
+use Prim.Native.Nat.{ℕ, _<_, _≤_}
 use native.Mathlib.Nat.{eq-or-lt-of-le}
 use native.Mathlib.Omega.{arith}
-use borrow.Author.Tests.{le-ltb, lt-ltb, ltb-false}
-use lib.Dec.{ltb}
-use lib.ListN.{length, getD, length-append, List·getD-append}
-use lib.Seq.{append-snoc, getD-at, getD-append-seam}
-use Rattle.laws.specs.Tests.{byTest}
+use borrow.Author.Tests.{le-ltb, lt-ltb}
+use lib.ListN.{length, getD, length-append}
+use lib.Seq.{append-snoc, getD-at, getD-append-seam, take-append-seam}
 use Rattle.form.specs.References.{formula}
 use Rattle.form.specs.declared.Record.{Record}
+use Rattle.formula.specs.GivenLaws.{translate-take}
 use Rattle.formula.specs.Givens.{Passed, unpassed, translate, passOne, pass}
 use Rattle.formula.specs.Make.{Outcome, none, make}
 use Rattle.formula.specs.MakeLaws.{Orderly, Keeps, orderly-none, keeps-make}
@@ -27,10 +26,7 @@ use Rattle.meaning.specs.Ranged.{Ranged, defined}
 -- Translating with one reference more.
 module _ (p : ℕ) (references : List ℕ) (x : ℕ) where
   translate-before : (r : ℕ) → r < formula p (length references) → translate p (references ++ (x ∷ [])) r ≡ translate p references r
-  unfolding translate
-  translate-before r h =
-      byTest (ltb r (formula p 0)) (λ t. rw t)
-      (λ t. let l : formula p 0 ≤ r = ltb-false _ _ t in rw t (List·getD-append references (x ∷ []) 0 (r - formula p 0) (omega arith)))
+  translate-before r h = sym (rw (take-append-seam references (x ∷ [])) at (translate-take p (references ++ (x ∷ [])) r (length references) h))
 
   translate-next : translate p (references ++ (x ∷ [])) (formula p (length references)) ≡ x
   unfolding translate

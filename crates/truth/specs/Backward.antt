@@ -20,7 +20,7 @@ use Rattle.truth.specs.Systems.{System, Leads, anyOf}
 use Rattle.truth.specs.Solutions.{leads-in}
 use Rattle.truth.specs.Carry.{truths, given, carry, systemIn}
 use Rattle.truth.specs.CarryLaws.{carry-leaves}
-use Rattle.truth.specs.Neighbours.{neighbours-in, in-neighbours, not-own}
+use Rattle.links.specs.Neighbours.{neighbours-in, in-neighbours, not-own}
 use Rattle.truth.specs.Past.{Still, AtPivot, past-sound, pivot-sound, past-complete}
 
 -- The answer is what the start was, or one of the products.

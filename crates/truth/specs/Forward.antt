@@ -12,7 +12,7 @@ use Rattle.sheet.specs.declared.Ask.{Ask}
 use Rattle.sheet.specs.declared.Cell.{Cell}
 use Rattle.sheet.specs.declared.Cell.the-variants.{Start, Label}
 use Rattle.elimination.specs.Plan.{passStart, passLabel, forward}
-use Rattle.truth.specs.Neighbours.{neighbours-in, in-neighbours, not-own}
+use Rattle.links.specs.Neighbours.{neighbours-in, in-neighbours, not-own}
 use Rattle.truth.specs.Carry.{truths, given, carry, systemIn}
 use Rattle.truth.specs.CarryLaws.{settles}
 use Rattle.truth.specs.Past.{past, Agree}

@@ -3,7 +3,6 @@ pub mod Booleans
 pub mod Solutions
 pub mod Carry
 pub mod CarryLaws
-pub mod Neighbours
 pub mod Past
 pub mod Writes
 pub mod Forward

@@ -20,7 +20,7 @@ use Rattle.sheet.specs.declared.Cell.the-variants.{Start, Label}
 use Rattle.elimination.specs.Plan.{passStart, passLabel, forward, backward, plan}
 use Rattle.truth.specs.Carry.{Carrier, carry}
 use Rattle.truth.specs.CarryLaws.{carry-leaves}
-use Rattle.truth.specs.Neighbours.{neighbours-in}
+use Rattle.links.specs.Neighbours.{neighbours-in}
 
 -- A cell of the vertices vs.
 abbrev pub Within : List ℕ → Cell → Type 0
