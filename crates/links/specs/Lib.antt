@@ -1,6 +1,7 @@
 pub mod Lists
 pub mod Links
 pub mod Switches
+pub mod Pairs
 pub mod ListLaws
 pub mod Neighbours
 pub mod Sums

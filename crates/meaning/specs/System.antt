@@ -5,12 +5,12 @@ use mathlib.Core.Bool.{Bool, So, _&&_, _||_}
 use mathlib.Core.List.{List, List·Memᴰ}
 use Prim.Native.Nat.{ℕ}
 use native.Mathlib.Omega.{arith}
-use borrow.Author.Tests.{eqb-true, eq-eqb}
-use lib.Dec.{eqb}
+use borrow.Author.Tests.{eq-eqb}
 use lib.ListN.{length, getD}
 use Rattle.laws.specs.Tests.{both-true}
 use Rattle.links.specs.ListLaws.{upTo-in, upTo-bounds}
 use Rattle.links.specs.Lists.{vertices}
+use Rattle.links.specs.Pairs.{pair-both}
 use Rattle.links.specs.Switches.{pair}
 use Rattle.network.specs.Network.{Network}
 use Rattle.network.specs.declared.Switch.{Switch}
@@ -36,8 +36,8 @@ systemOf net setting =
 pair-so : (a b u v : ℕ) (t : Bool) → So (pair a b u v && t) → (u ≡ a) × (v ≡ b) × So t
 pair-so a b u v t h =
     let x = both-true (pair a b u v) t h in
-    let y = both-true (eqb u a) (eqb v b) (x .0) in
-    (eqb-true u a (y .0), eqb-true v b (y .1), x .1)
+    let y = pair-both a b u v (x .0) in
+    (y .0, y .1, x .1)
 
 so-pair : (a b u v : ℕ) (t : Bool) → (u ≡ a) × (v ≡ b) × So t → So (pair a b u v && t)
 so-pair a b u v t h = rw (eq-eqb u a (h .0), eq-eqb v b (h .1)) (h .2)

@@ -1,19 +1,20 @@
 -- What the sheet means from which the elimination starts: the network's own system.
 use mathlib.Core.Path.{_≡_, refl, sym, ap, _∙_}
 use mathlib.Core.Logic.{_≢_}
-use mathlib.Core.Bool.{Bool, true, false, cond, _&&_, _||_, or-false, or-true, or-assoc}
+use mathlib.Core.Bool.{Bool, cond, _&&_, _||_, or-false, or-true, or-assoc}
 use mathlib.Core.List.{List, [], _∷_, List·Memᴰ, List·Memᴰ·head, List·Memᴰ·tail, append-nil}
 use Prim.Native.Nat.{ℕ, _+_, _<_}
 use native.Mathlib.Nat.{add-zero, add-assoc}
 use native.Mathlib.Omega.{arith}
-use borrow.Author.Tests.{eqb-true, eq-eqb, ne-eqb, ltb-true, ltb-false}
+use borrow.Author.Tests.{eq-eqb, ne-eqb, ltb-true, ltb-false}
 use lib.Dec.{eqb, ltb}
 use lib.ListN.{length, getD, List·getD-eq-default}
 use Rattle.analysis.specs.Wiring.{passed, translated, starting, setOrJoin, labelled, translateSwitch, wire, wireAll, wired}
 use Rattle.form.specs.References.{formula}
-use Rattle.laws.specs.Tests.{both-true, byTest, bySame}
+use Rattle.laws.specs.Tests.{byTest, bySame}
 use Rattle.links.specs.Links.{Graph}
 use Rattle.links.specs.Lists.{vertices}
+use Rattle.links.specs.Pairs.{pair-both, pair-other}
 use Rattle.links.specs.Switches.{pair, link, joinsAt, linksFrom, joinsFrom, noLinks, linksOf, joinsOf}
 use Rattle.links.specs.Symmetry.{Symmetric, symmetric-none, symmetric-link}
 use Rattle.network.specs.Layout.{SwitchIn}
@@ -33,19 +34,13 @@ use Rattle.truth.specs.Carry.{systemIn}
 use Rattle.truth.specs.Past.{Agree}
 use Rattle.truth.specs.Systems.{anyOf}
 
--- The pair (a, b) is the pair (u, v), and then a cell is the label of that pair.
+-- The label from a to b is the label from u to v where the pairs are the same.
 pair-same : (a b u v : ℕ) → sameCell (Label a b) (Label u v) ≡ pair a b u v
 unfolding sameCell
 pair-same a b u v = rw (turned a u, turned b v)
   where
     turned : (x y : ℕ) → eqb x y ≡ eqb y x
     turned x y = bySame x y (λ e. rw e) (λ d. rw (ne-eqb x y d, ne-eqb y x (λ e. d (sym e))))
-
-pair-other : (a b u v : ℕ) → (u ≡ a → v ≡ b → ⊥) → pair a b u v ≡ false
-pair-other a b u v d = bySame u a (λ e. rw (eq-eqb u a e) (ne-eqb v b (d e))) (λ n. rw (ne-eqb u a n))
-
-pair-both : (a b u v : ℕ) → pair a b u v ≡ true → (u ≡ a) × (v ≡ b)
-pair-both a b u v t = let x = both-true (eqb u a) (eqb v b) t in (eqb-true u a (x .0), eqb-true v b (x .1))
 
 label-set : (a b u v : ℕ) (x : Bool) (t : Cell → Bool) → setCell (Label a b) x t (Label u v) ≡ cond (pair a b u v) x (t (Label u v))
 unfolding setCell
