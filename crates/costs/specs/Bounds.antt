@@ -13,7 +13,7 @@ use Rattle.links.specs.Links.{Graph, beside, neighbours, degree, gone, order}
 use Rattle.links.specs.ListLaws.{Ascending, keep-shorter, ascending-keep, without-length, upTo-ascending, upTo-length}
 use Rattle.links.specs.Neighbours.{neighbours-others}
 use Rattle.links.specs.Sums.{total-most}
-use Rattle.links.specs.Orders.{TakesAll, none-left, taken, order-takes}
+use Rattle.links.specs.OrderLaws.{TakesAll, none-left, taken, order-takes}
 use Rattle.sheet.specs.Asks.{work}
 use Rattle.elimination.specs.Plan.{plan, workOf}
 use Rattle.elimination.specs.WorkLaws.{labelWork, neighbourWork, pivotWork, plan-work}

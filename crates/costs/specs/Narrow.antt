@@ -25,7 +25,7 @@ use Rattle.links.specs.ListLaws.{
   lowest-least,
 }
 use Rattle.links.specs.Neighbours.{neighbours-others}
-use Rattle.links.specs.Orders.{TakesAll, none-left, taken}
+use Rattle.links.specs.OrderLaws.{TakesAll, none-left, taken}
 use Rattle.links.specs.Symmetry.{Symmetric, symmetric-gone}
 
 -- No pivot of an order has more than two neighbours when it is taken.

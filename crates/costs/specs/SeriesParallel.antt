@@ -11,8 +11,7 @@ use lib.ListN.{length}
 use Rattle.links.specs.Lists.{without, vertices}
 use Rattle.links.specs.Links.{Graph, beside, neighbours, degree, gone, order}
 use Rattle.links.specs.ListLaws.{Ascending, without-in, ascending-keep, upTo-ascending}
-use Rattle.links.specs.Orders.{TakesAll, order-takes}
-use Rattle.links.specs.OrderLaws.{order-length}
+use Rattle.links.specs.OrderLaws.{TakesAll, order-takes, order-length}
 use Rattle.links.specs.Symmetry.{Symmetric, symmetric-gone}
 use Rattle.sheet.specs.Asks.{work}
 use Rattle.elimination.specs.Plan.{plan, workOf}

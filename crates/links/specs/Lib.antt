@@ -6,5 +6,4 @@ pub mod ListLaws
 pub mod Neighbours
 pub mod Sums
 pub mod OrderLaws
-pub mod Orders
 pub mod Symmetry

@@ -1,8 +1,8 @@
--- Laws of rule M's order: it takes each vertex, and none other.
+-- Laws of orders, and of rule M's: it takes each vertex, and none other.
 use mathlib.Core.Path.{_≡_, refl, ap, _∙_}
 use mathlib.Core.Logic.{⊎-elim}
 use mathlib.Core.Bool.{not}
-use mathlib.Core.List.{List, [], _∷_, List·Memᴰ, List·Memᴰ·not-nil, List·Memᴰ·cases-cons, Memᴰ·cast}
+use mathlib.Core.List.{List, [], _∷_, List·Memᴰ, List·Memᴰ·cases-cons, Memᴰ·cast}
 use Prim.Native.Nat.{ℕ, zero, suc, _<_, _≤_}
 use native.Mathlib.Omega.{arith}
 use lib.Dec.{eqb}
@@ -11,35 +11,46 @@ use Rattle.links.specs.Lists.{without, vertices}
 use Rattle.links.specs.Links.{Graph, degree, pivot, gone, orderOf, order}
 use Rattle.links.specs.ListLaws.{Ascending, ascending-keep, without-length, without-in, lowest-in, upTo-ascending, upTo-bounds, upTo-length}
 
--- The next of the order, where vertices remain.
+-- An order takes all of the vertices vs: each is there when its turn comes, and none is left.
+pub data TakesAll : List ℕ → List ℕ → Type 0 where
+  none-left : TakesAll [] []
+  taken : {vs ps : List ℕ} (p : ℕ) → List·Memᴰ p vs → TakesAll (without p vs) ps → TakesAll vs (p ∷ ps)
+
+-- Such an order has as many,
+takes-length : {vs ps : List ℕ} → TakesAll vs ps → Ascending vs → length ps ≡ length vs
+takes-length none-left a = refl
+takes-length (taken {vs} p m rest) a = ap suc (takes-length rest (ascending-keep (λ u. not (eqb p u)) vs a)) ∙ without-length p vs a m
+
+-- and none but these.
+takes-in : {vs ps : List ℕ} → TakesAll vs ps → {v : ℕ} → List·Memᴰ v ps → List·Memᴰ v vs
+takes-in none-left n = n
+takes-in (taken {vs} p m rest) n = ⊎-elim (λ e. Memᴰ·cast e m) (λ k. without-in p vs (takes-in rest k) .0) (List·Memᴰ·cases-cons n)
+
+-- The next of rule M's order, where vertices remain.
 pub order-more : (k : ℕ) (g : Graph) (vs : List ℕ) (p : ℕ) → p ≡ pivot g vs → 0 < length vs
     → orderOf (suc k) g vs ≡ p ∷ orderOf k (gone p g) (without p vs)
 order-more k g [] p e h = absurd (omega arith)
 order-more k g (v ∷ vs) p e h = rw e
 
--- It takes as many as there are,
-orderOf-length : (k : ℕ) (g : Graph) (vs : List ℕ) → Ascending vs → length vs ≤ k → length (orderOf k g vs) ≡ length vs
-orderOf-length zero g [] a h = refl
-orderOf-length zero g (v ∷ vs) a h = absurd (omega arith)
-orderOf-length (suc k) g [] a h = refl
-orderOf-length (suc k) g (v ∷ vs) a h =
+orderOf-takes : (k : ℕ) (g : Graph) (vs : List ℕ) → Ascending vs → length vs ≤ k → TakesAll vs (orderOf k g vs)
+orderOf-takes zero g [] a h = none-left
+orderOf-takes zero g (v ∷ vs) a h = absurd (omega arith)
+orderOf-takes (suc k) g [] a h = none-left
+orderOf-takes (suc k) g (v ∷ vs) a h =
     let p = pivot g (v ∷ vs) in
-    let less = without-length p (v ∷ vs) a (lowest-in (degree g (v ∷ vs)) v vs) in
-    ap suc (orderOf-length k (gone p g) (without p (v ∷ vs)) (ascending-keep (λ u. not (eqb p u)) (v ∷ vs) a) (omega arith)) ∙ less
+    let m = lowest-in (degree g (v ∷ vs)) v vs in
+    let less = without-length p (v ∷ vs) a m in
+    taken p m (orderOf-takes k (gone p g) (without p (v ∷ vs)) (ascending-keep (λ u. not (eqb p u)) (v ∷ vs) a) (omega arith))
 
-pub order-length : (n : ℕ) (g : Graph) → length (order n g) ≡ n
-order-length n g =
-    let l = upTo-length n 0 in orderOf-length n g (vertices n) (upTo-ascending n 0) (omega arith) ∙ l
+module _ (n : ℕ) (g : Graph) where
+  -- Rule M's order takes every vertex,
+  pub order-takes : TakesAll (vertices n) (order n g)
+  order-takes = let l = upTo-length n 0 in orderOf-takes n g (vertices n) (upTo-ascending n 0) (omega arith)
 
--- and each of them is there.
-orderOf-in : (k : ℕ) (g : Graph) (vs : List ℕ) {v : ℕ} → List·Memᴰ v (orderOf k g vs) → List·Memᴰ v vs
-orderOf-in zero g vs m = absurd (List·Memᴰ·not-nil m)
-orderOf-in (suc k) g [] m = absurd (List·Memᴰ·not-nil m)
-orderOf-in (suc k) g (v ∷ vs) m =
-    let p = pivot g (v ∷ vs) in
-    ⊎-elim (λ e. Memᴰ·cast e (lowest-in (degree g (v ∷ vs)) v vs))
-    (λ m′. without-in p (v ∷ vs) (orderOf-in k (gone p g) (without p (v ∷ vs)) m′) .0)
-    (List·Memᴰ·cases-cons m)
+  -- so it has n,
+  pub order-length : length (order n g) ≡ n
+  order-length = takes-length order-takes (upTo-ascending n 0) ∙ upTo-length n 0
 
-pub order-in : (n : ℕ) (g : Graph) {v : ℕ} → List·Memᴰ v (order n g) → v < n
-order-in n g m = omega (arith, upTo-bounds n 0 (orderOf-in n g (vertices n) m))
+  -- each below n.
+  pub order-in : {v : ℕ} → List·Memᴰ v (order n g) → v < n
+  order-in m = omega (arith, upTo-bounds n 0 (takes-in order-takes m))

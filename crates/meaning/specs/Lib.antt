@@ -5,5 +5,6 @@ pub mod SheetLaws
 pub mod Passed
 pub mod System
 pub mod Labels
+pub mod Switches
 pub mod Wired
 pub mod Answers

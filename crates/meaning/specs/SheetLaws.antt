@@ -89,7 +89,7 @@ perform-standing p most (x ∷ xs) st standing =
     (put-standing p most st standing (cond (x .joined) 2 1) (x .to) (asked p x st) (asked-keeps p most st standing x)))
 
 -- Operations carried out on a sheet are worth the same operations carried out on truths:
-pub perform-carry :
+perform-carry :
     (setting : List ℕ) (p most : ℕ) → length setting ≡ p → (xs : List Ask) (st : Sheet) → Standing p most st →
     worthOf setting (perform p xs st) ≡ carry truths xs (worthOf setting st)
 unfolding perform carry

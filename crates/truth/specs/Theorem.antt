@@ -9,7 +9,7 @@ use Rattle.laws.specs.Tests.{byTest}
 use Rattle.links.specs.Lists.{without, vertices}
 use Rattle.links.specs.Links.{Graph, neighbours, gone, order}
 use Rattle.links.specs.ListLaws.{without-in, upTo-in}
-use Rattle.links.specs.Orders.{TakesAll, none-left, taken, order-takes}
+use Rattle.links.specs.OrderLaws.{TakesAll, none-left, taken, order-takes}
 use Rattle.links.specs.Symmetry.{Symmetric, symmetric-gone}
 use Rattle.sheet.specs.declared.Cell.{Cell}
 use Rattle.sheet.specs.declared.Cell.the-variants.{Start, Label}

@@ -12,7 +12,7 @@ use Rattle.laws.specs.Tests.{both-true, byTest}
 use Rattle.links.specs.Lists.{without}
 use Rattle.links.specs.Links.{Graph, neighbours, gone}
 use Rattle.links.specs.ListLaws.{without-in, in-without}
-use Rattle.links.specs.Orders.{TakesAll, none-left, taken}
+use Rattle.links.specs.OrderLaws.{TakesAll, none-left, taken}
 use Rattle.sheet.specs.Asks.{ask, sameCell}
 use Rattle.sheet.specs.declared.Ask.{Ask}
 use Rattle.sheet.specs.declared.Cell.{Cell}
