@@ -1,3 +1,4 @@
 pub mod Wiring
 pub mod Result
 pub mod Analysis
+pub mod Room

@@ -8,7 +8,7 @@ use native.Mathlib.Omega.{arith}
 use lib.Dec.{eqb}
 use lib.ListN.{length}
 use Rattle.links.specs.Lists.{without, vertices}
-use Rattle.links.specs.Links.{Graph, degree, pivot, gone, orderOf, order}
+use Rattle.links.specs.Links.{Graph, degree, pivot, gone, orderOf, order, steps}
 use Rattle.links.specs.ListLaws.{Ascending, ascending-keep, without-length, without-in, lowest-in, upTo-ascending, upTo-bounds, upTo-length}
 
 -- An order takes all of the vertices vs: each is there when its turn comes, and none is left.
@@ -25,6 +25,11 @@ takes-length (taken {vs} p m rest) a = ap suc (takes-length rest (ascending-keep
 takes-in : {vs ps : List ℕ} → TakesAll vs ps → {v : ℕ} → List·Memᴰ v ps → List·Memᴰ v vs
 takes-in none-left n = n
 takes-in (taken {vs} p m rest) n = ⊎-elim (λ e. Memᴰ·cast e m) (λ k. without-in p vs (takes-in rest k) .0) (List·Memᴰ·cases-cons n)
+
+-- A step for each of an order.
+pub steps-length : (g : Graph) (vs ps : List ℕ) → length (steps g vs ps) ≡ length ps
+steps-length g vs [] = refl
+steps-length g vs (p ∷ ps) = ap suc (steps-length (gone p g) (without p vs) ps)
 
 -- The next of rule M's order, where vertices remain.
 pub order-more : (k : ℕ) (g : Graph) (vs : List ℕ) (p : ℕ) → p ≡ pivot g vs → 0 < length vs

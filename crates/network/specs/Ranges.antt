@@ -15,9 +15,9 @@ use Rattle.form.specs.Verdicts.{if-fine, first-fine, accepts}
 use Rattle.form.specs.declared.Record.{Record}
 use Rattle.network.specs.declared.Limits.{Limits}
 use Rattle.network.specs.declared.Sections.{Sections}
-use Rattle.network.specs.Network.{after, endAt, givenAt, switchAt, edition}
+use Rattle.network.specs.Network.{after, endAt, givenAt, switchAt}
 use Rattle.network.specs.Faults.{cutFault, countFault, coilFault, kindFault, referenceFault, endFault, trailingFault, secondBelow, givenFault, vertexFault, switchFault, entriesFault, sectionFault, networkFault}
-use Rattle.network.specs.Layout.{sectionsOf, networkAnswer, GivenIn, SwitchIn, Within, Layout, Sound}
+use Rattle.network.specs.Layout.{sectionsOf, networkAnswer, GivenIn, SwitchIn, Sound}
 
 -- One of three numbers.
 one-of-three : (x : ℕ) (a b c : Bool) → (a ≡ true → x ≡ 1) → (b ≡ true → x ≡ 2) → (c ≡ true → x ≡ 3) → not (a || b || c) ≡ false → (1 ≤ x) × (x ≤ 3)
@@ -32,7 +32,7 @@ module _ (s : List ℕ) where
   unfolding cutFault
   cut-fine size at e = ltb-false _ _ (if-fine _ _ _ e)
 
-  count-fine : (limit at : ℕ) → countFault limit s at ≡ fine → wordAt s at ≤ limit
+  pub count-fine : (limit at : ℕ) → countFault limit s at ≡ fine → wordAt s at ≤ limit
   unfolding countFault
   count-fine limit at e = ltb-false _ _ (if-fine _ _ _ e)
 
@@ -117,12 +117,12 @@ module _ (size : ℕ) (test : List ℕ → ℕ → ℕ → Verdict) (s : List �
       let i = entry-first at k n e in rw (step-place at n) (entries-end (at + size) (k + 1) n (i .0) (i .2))
 
   -- What a section then has.
-  record SectionIn (limit at : ℕ) : Type 0 where
+  pub record SectionIn (limit at : ℕ) : Type 0 where
     pub count : wordAt s at ≤ limit
     pub inside : after size s at ≤ length s
     pub entry : (k : ℕ) → k < wordAt s at → test s (at + 2 + size * k) k ≡ fine
 
-  section-fine : (limit at : ℕ) → sectionFault limit size test s at ≡ fine → SectionIn limit at
+  pub section-fine : (limit at : ℕ) → sectionFault limit size test s at ≡ fine → SectionIn limit at
   unfolding sectionFault
   section-fine limit at e =
       let h = first-fine _ _ e in
@@ -134,7 +134,7 @@ module _ (size : ℕ) (test : List ℕ → ℕ → ℕ → Verdict) (s : List �
       }
 
 -- The whole file.
-in-range : (limits : Limits) (s : List ℕ) → networkFault limits s ≡ fine → Sound limits s (sectionsOf s)
+pub in-range : (limits : Limits) (s : List ℕ) → networkFault limits s ≡ fine → Sound limits s (sectionsOf s)
 unfolding networkFault
 in-range limits s e =
     let h = first-fine _ _ e in
@@ -168,10 +168,6 @@ pub sound : (limits : Limits) (s : List ℕ) (parts : Sections) → accepted par
 sound limits s parts e =
     let h = accepts parts (sectionsOf s) (networkFault limits s) e in
     rw (h .1) (in-range limits s (sym (h .0)))
-
--- The longest accepted file has 6,656 bytes.
-pub longest : (s : List ℕ) (parts : Sections) → Layout s parts → Within edition parts → length s ≤ 6656
-longest s parts l w = omega arith
 
 -- The second argument of a given formula is below its reference too.
 below-both : (t : Bool) (own x : ℕ) → 1 ≤ own → x < cond t 1 own → x < own

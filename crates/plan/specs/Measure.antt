@@ -2,11 +2,13 @@
 use mathlib.Core.Path.{_≡_}
 use mathlib.Core.Bool.{Bool}
 use mathlib.Core.List.{List}
-use Prim.Native.Nat.{ℕ, _+_, _*_}
+use Prim.Native.Nat.{ℕ, _+_, _*_, _≤_}
+use borrow.Author.Tests.{ltb-false}
 use lib.Dec.{ltb}
 use lib.ListN.{length}
 use Rattle.elimination.specs.Plan.{workOf}
-use Rattle.form.specs.Refusals.{Verdict, faultIf}
+use Rattle.form.specs.Refusals.{Verdict, fine, faultIf}
+use Rattle.form.specs.Verdicts.{if-fine}
 use Rattle.links.specs.Switches.{linksOf, joinsOf}
 use Rattle.network.specs.Network.{Network, networkOf}
 use Rattle.network.specs.Layout.{Layout}
@@ -30,6 +32,11 @@ operationsFault net = faultIf (ltb 10000 (operations net)) 8 0
 -- 9: result room too small. Place 0.
 unfoldable pub roomFault : Network → ℕ → Verdict
 roomFault net room = faultIf (ltb room (roomFor net)) 9 0
+
+-- Where 8 finds nothing, the operations are no more.
+pub operations-fine : (net : Network) → operationsFault net ≡ fine → operations net ≤ 10000
+unfolding operationsFault
+operations-fine net e = ltb-false _ _ (if-fine _ 8 0 e)
 
 -- The same by the numbers of a plan: the operations,
 abbrev pub operationsOf : Plan → ℕ

@@ -6,7 +6,8 @@ use Rattle.form.specs.Refusals.{Answer, refused, accepted}
 use Rattle.form.specs.Verdicts.{faultFrom, fault-back}
 use Rattle.network.specs.Network.{edition}
 use Rattle.network.specs.Layout.{networkAnswer}
-use Rattle.network.specs.Ranges.{sound, longest}
+use Rattle.network.specs.Places.{longest-file}
+use Rattle.network.specs.Ranges.{sound}
 use Rattle.network.specs.declared.Sections.{Sections}
 use Rattle.reader.specs.Answers.{checkedOf, Told}
 use Rattle.reader.specs.declared.Checked.{Checked}
@@ -16,7 +17,7 @@ pub told : (s : List ℕ) (r : Checked) → checkedOf r ≡ networkAnswer editio
 told s r e =
     record {
       sound = λ found a. sound edition s found (rw a at e);
-      longest = λ found a. let b = sound edition s found (rw a at e) in longest s found (b .layout) (b .within);
+      longest = λ found a. let b = sound edition s found (rw a at e) in longest-file edition s found (b .layout) (b .within);
     }
 
 abbrev checkedFrom : Answer Sections → Checked

@@ -3,3 +3,4 @@ pub mod Back
 pub mod StoredLaws
 pub mod Truths
 pub mod Figures
+pub mod Lengths
