@@ -1,0 +1,17 @@
+-- `lines::put_second` meets its contract: not has no second argument.
+use Rattle.text.specs.Putting.{fits-as, puts-as}
+use Rattle.lines.specs.Putting.{second-none, second-field}
+use borrow.Author.Needs.{needs}
+use Rattle.lines.proofs.put_second.Statement.{statement}
+use Rattle.lines.proofs.put_second.Tie as tie
+
+pub put-second-spec : {M : Type 1} → statement M
+put-second-spec =
+    tie.close
+    (tie.spec
+    (λ c. search second-none)
+    (λ c. search needs)
+    (λ c. search needs)
+    (λ c κs. search (fits-as, second-field))
+    (λ c. search needs)
+    (λ c. search (puts-as, second-field)))
