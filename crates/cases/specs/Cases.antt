@@ -1,7 +1,7 @@
 -- K1 to K9, F1 to F4 and example L, as one table under a single claim.
 use mathlib.Core.Path.{_≡_, refl, ap₂}
 use mathlib.Core.Bool.{Bool, true, false, _&&_, false≢true}
-use mathlib.Core.List.{List, [], _∷_, map, flatMap, List·Memᴰ, List·Memᴰ·head, List·Memᴰ·tail}
+use mathlib.Core.List.{List, [], _∷_, _++_, map, flatMap, List·Memᴰ, List·Memᴰ·head, List·Memᴰ·tail}
 use Prim.Native.Nat.{ℕ}
 use borrow.Author.Tests.{eqb-true}
 use lib.Dec.{eqb}
@@ -17,10 +17,12 @@ use Rattle.links.specs.Lists.{upTo, vertices}
 use Rattle.links.specs.Links.{Graph, Step, order, steps}
 use Rattle.links.specs.Switches.{linksOf, joinsOf}
 use Rattle.network.specs.Network.{Network, edition, networkOf}
+use Rattle.list.specs.Listing.{listing}
 use Rattle.network.specs.declared.Switch.{Switch}
 use Rattle.sheet.specs.Asks.{work}
 use Rattle.stored.specs.Stored.{storedOf}
 use Rattle.stored.specs.Truths.{truthIn}
+use Rattle.text.specs.Texts.{ascii}
 use Rattle.analysis.specs.Wiring as wiring
 use Rattle.analysis.specs.Result as result
 use Rattle.analysis.specs.Analysis as whole
@@ -29,13 +31,16 @@ use Rattle.form.specs.Numbers as numbers
 use Rattle.formula.specs.Givens as givens
 use Rattle.formula.specs.Make as making
 use Rattle.formula.specs.Worth as worths
+use Rattle.lines.specs.Lines as lines
 use Rattle.links.specs.Switches as switches
+use Rattle.list.specs.Listing as listings
 use Rattle.network.specs.Faults as faults
 use Rattle.network.specs.Network as networks
 use Rattle.plan.specs.Measure as measures
 use Rattle.sheet.specs.Asks as asks
 use Rattle.sheet.specs.Perform as sheets
 use Rattle.stored.specs.Stored as storing
+use Rattle.text.specs.Texts as texts
 
 -- A switch with both labels 0, which links its ends all the same.
 abbrev pub bare : ℕ → ℕ → Switch
@@ -67,12 +72,22 @@ outcome (refused number place) = number ∷ place ∷ []
 outcome (accepted bytes) = length bytes ∷ []
 
 -- Example L: coils 7 and 9; no given formulas; starts 1, 0, 0; switches (0,1,2,2) and (1,2,3,3).
+abbrev pub fileL : List ℕ
+fileL = bytesOf (2 ∷ 7 ∷ 9 ∷ 0 ∷ 3 ∷ 1 ∷ 0 ∷ 0 ∷ 2 ∷ 0 ∷ 1 ∷ 2 ∷ 2 ∷ 1 ∷ 2 ∷ 3 ∷ 3 ∷ [])
+
 abbrev pub exampleL : Network
-exampleL = networkOf (bytesOf (2 ∷ 7 ∷ 9 ∷ 0 ∷ 3 ∷ 1 ∷ 0 ∷ 0 ∷ 2 ∷ 0 ∷ 1 ∷ 2 ∷ 2 ∷ 1 ∷ 2 ∷ 3 ∷ 3 ∷ []))
+exampleL = networkOf fileL
 
 -- The truths of its vertices under a setting, read back from the bytes of its result.
 abbrev pub truthsL : List ℕ → List ℕ
 truthsL setting = map (λ v. bitOf (truthIn (storedOf (resultOf exampleL)) setting v)) (vertices 3)
+
+-- Its listing, line by line.
+abbrev pub listingL : List ℕ
+listingL =
+    ascii "vertices 3 switches 2 joins 0 work 8 nodes 4\n"
+    ++ (ascii "pivot 0 degree 1\npivot 1 degree 1\npivot 2 degree 0\n"
+    ++ (ascii "f 4 and 2 3\nf 5 and 3 4\nf 6 or 2 5\nf 7 and 2 6\n" ++ ascii "vertex 0 formula 1\nvertex 1 formula 6\nvertex 2 formula 4\n"))
 
 -- What the definitions give, beside what the outline says.
 abbrev pub table : List (List ℕ × List ℕ)
@@ -115,6 +130,9 @@ table =
     ∷ (truthsL (1 ∷ 0 ∷ []), 1 ∷ 1 ∷ 0 ∷ [])
     ∷ (truthsL (0 ∷ 1 ∷ []), 1 ∷ 0 ∷ 0 ∷ [])
     ∷ (truthsL (1 ∷ 1 ∷ []), 1 ∷ 1 ∷ 1 ∷ [])
+    -- its listing, and that of a refusal
+    ∷ (listing fileL, listingL)
+    ∷ (listing (replicate 9 0), ascii "refused 7 at 8\n")
     ∷ []
 
 -- Two lists of numbers are the same; the two sides of every row are.
@@ -158,4 +176,7 @@ unfolding
     result.eliminated result.resultIn result.resultNumbers result.resultOf
     measures.operations measures.roomFor measures.operationsFault measures.roomFault whole.analysisFault whole.analysis
     storing.storedOf worths.operate worths.evaluate worths.worth
+    texts.digitsIn texts.decimal texts.pairLine
+    lines.countsLine lines.pivotLine lines.kindText lines.secondText lines.recordLine lines.vertexLine lines.lines lines.resultLines
+    listings.refusedLine listings.listingFor listings.listing
 table-holds m = row-holds table refl m

@@ -3,6 +3,7 @@ ghost use mathlib.Core.Path.{_≡_};
 ghost use Prim.Native.Nat.{_+_, _<_, _≤_};
 ghost use lib.ListN.{length};
 ghost use Rattle.form.specs.Numbers.{wordAt, putWord};
+ghost use Rattle.form.specs.Refusals.{numberOf, placeOf};
 ghost use Rattle.form.specs.References.{variable};
 
 // A formula: its kind is 1 for and, 2 for or, 3 for not, and its arguments are references. A given formula and a record have this form.
@@ -49,6 +50,48 @@ pub enum Fault {
     SettingLength,
     SettingByte(usize),
     AnswerRoom,
+}
+
+impl Fault {
+    // Its number.
+    pub fn number(self) -> u64
+        ensures { λ r. ⌜ r ≡ numberOf self ⌝ }
+    {
+        match self {
+            Fault::Cut(_) => 1,
+            Fault::Count(_) => 2,
+            Fault::Coil(_) => 3,
+            Fault::Kind(_) => 4,
+            Fault::Reference(_) => 5,
+            Fault::End(_) => 6,
+            Fault::Trailing(_) => 7,
+            Fault::Work => 8,
+            Fault::ResultRoom => 9,
+            Fault::SettingLength => 10,
+            Fault::SettingByte(_) => 11,
+            Fault::AnswerRoom => 12,
+        }
+    }
+
+    // Its place.
+    pub fn place(self) -> usize
+        ensures { λ r. ⌜ r ≡ placeOf self ⌝ }
+    {
+        match self {
+            Fault::Cut(at) => at,
+            Fault::Count(at) => at,
+            Fault::Coil(at) => at,
+            Fault::Kind(at) => at,
+            Fault::Reference(at) => at,
+            Fault::End(at) => at,
+            Fault::Trailing(at) => at,
+            Fault::Work => 0,
+            Fault::ResultRoom => 0,
+            Fault::SettingLength => 0,
+            Fault::SettingByte(index) => index,
+            Fault::AnswerRoom => 0,
+        }
+    }
 }
 
 // The answer to a call that fills a lent buffer: how much it has written, or why it has written nothing.

@@ -1,0 +1,120 @@
+-- Every listing fits into a buffer of one size.
+use mathlib.Core.Path.{_≡_, refl}
+use mathlib.Core.List.{List}
+use Prim.Native.Nat.{ℕ, _+_, _*_, _<_, _≤_}
+use native.Mathlib.Omega.{arith}
+use lib.ListN.{length, getD, length-append}
+use Rattle.analysis.specs.Result.{Stored, eliminated, resultIn}
+use Rattle.analysis.specs.Room.{operations-placed}
+use Rattle.form.specs.References.{formula}
+use Rattle.form.specs.Refusals.{Verdict, fine, fault, firstOf}
+use Rattle.form.specs.Placed.{placed-fault}
+use Rattle.form.specs.Verdicts.{first-fine}
+use Rattle.formula.specs.Make.{none}
+use Rattle.formula.specs.MakeLaws.{Orderly}
+use Rattle.links.specs.ListLaws.{vertex-at, vertices-long}
+use Rattle.links.specs.Links.{Step}
+use Rattle.meaning.specs.Answers.{eliminated-standing}
+use Rattle.meaning.specs.Ranged.{layout-ranged}
+use Rattle.network.specs.Faults.{networkFault}
+use Rattle.network.specs.Layout.{sectionsOf, Sound}
+use Rattle.network.specs.Lists.{variables-length, givens-length, starts-length, switches-length}
+use Rattle.network.specs.Network.{edition, networkOf}
+use Rattle.network.specs.Ranges.{in-range}
+use Rattle.plan.specs.Measure.{operations, operationsFault, operations-fine, operations-are}
+use Rattle.plan.specs.Plans.{planIn}
+use Rattle.sheet.specs.declared.Cell.the-variants.{Start}
+use Rattle.stored.specs.Stored.{joinsFigure, workFigure}
+use Rattle.writer.specs.Last.{stepAt, stepsIn}
+use Rattle.writer.specs.Lengths.{steps-long}
+use Rattle.writer.specs.Steps.{steps-are, plan-fits}
+use Rattle.lines.specs.Lines.{pivotLine, recordLine, vertexLine, lines, resultLines}
+use Rattle.list.specs.Listing.{listingFor, listing, listingRoom}
+use Rattle.list.specs.LineLengths.{refused-most, pivot-most, vertex-most, record-most, counts-most, lines-most}
+
+-- No pivot.
+abbrev noStep : Step
+noStep = record { vertex = 0; degree = 0 }
+
+-- How many lines a result has at most, and how large their numbers are.
+record Limited (switches : ℕ) (r : Stored) : Type 0 where
+  pub wired : switches ≤ edition .switches
+  pub joins : joinsFigure r ≤ 10000
+  pub work : workFigure r ≤ 10000
+  pub variables : length (r .variables) ≤ edition .variables
+  pub records : length (r .records) ≤ edition .givens + 10000
+  pub orderly : Orderly (length (r .variables)) (r .records)
+  pub answers : length (r .answers) ≤ edition .vertices
+  pub answer : (v : ℕ) → v < length (r .answers) → getD (r .answers) v 0 < formula (length (r .variables)) (length (r .records))
+  pub pivots : length (r .order) ≤ edition .vertices
+  pub vertex : (k : ℕ) → k < length (r .order) → getD (r .order) k noStep .vertex < 65536
+  pub degree : (k : ℕ) → k < length (r .order) → getD (r .order) k noStep .degree < 65536
+
+-- Its lines.
+module _ (switches : ℕ) (r : Stored) (limited : Limited switches r) where
+  pivots-most : length (lines pivotLine 0 (r .order)) ≤ 25 * length (r .order)
+  pivots-most =
+      lines-most pivotLine 25 noStep 0 (r .order)
+      (λ k h. pivot-most (0 + k) _ (omega (arith, limited .vertex k h)) (omega (arith, limited .degree k h)))
+
+  records-most : length (lines recordLine (formula (length (r .variables)) 0) (r .records)) ≤ 24 * length (r .records)
+  unfolding Orderly
+  records-most =
+      lines-most recordLine 24 none (formula (length (r .variables)) 0) (r .records)
+      (λ k h. let earlier = limited .orderly k h in record-most _ _ (omega arith) (omega arith) (omega arith))
+
+  answers-most : length (lines vertexLine 0 (r .answers)) ≤ 27 * length (r .answers)
+  answers-most =
+      lines-most vertexLine 27 0 0 (r .answers) (λ v h. vertex-most (0 + v) _ (omega arith) (omega (arith, limited .answer v h)))
+
+  result-fits : length (resultLines switches r) ≤ listingRoom
+  unfolding resultLines
+  result-fits =
+      let counts =
+      counts-most (length (r .answers)) switches (joinsFigure r) (workFigure r) (length (r .records))
+      (omega arith) (omega arith) (omega arith) (omega arith) (omega arith) in
+      simp length-append (omega (arith, pivots-most, records-most, answers-most))
+
+-- The result of an accepted file is so, where no more operations are asked than are allowed.
+result-limited : (s : List ℕ) → Sound edition s (sectionsOf s) → operations (networkOf s) ≤ 10000
+    → Limited (length (networkOf s .switches)) (resultIn (networkOf s))
+unfolding resultIn operations stepsIn
+result-limited s sound few =
+    let net = networkOf s in
+    let n = length (net .starts) in
+    let found = planIn net in
+    let layout = sound .layout in
+    let standing = eliminated-standing net (layout-ranged s (sectionsOf s) layout) in
+    let fits = plan-fits s (sectionsOf s) layout (sound .within) found refl (omega (arith, operations-are net found refl)) in
+    let order = steps-are net found refl in
+    let pivots : length (resultIn net .order) ≡ n = rw (← order) (steps-long found n) in
+    let answers = vertices-long (λ (v : ℕ). eliminated net .cells (Start v)) n in
+    let vertices = starts-length layout in
+    record {
+      wired = omega (arith, switches-length layout);
+      joins = omega arith;
+      work = omega arith;
+      variables = omega (arith, variables-length layout);
+      records = omega (arith, givens-length layout);
+      orderly = standing .orderly;
+      answers = omega arith;
+      answer = λ v h. rw (vertex-at (λ (u : ℕ). eliminated net .cells (Start u)) n v 0 (omega arith)) (standing .there (Start v));
+      pivots = omega arith;
+      vertex = λ k h. rw (← order, vertex-at (stepAt found) n k noStep (omega arith)) (fits .vertex k (omega arith));
+      degree = λ k h. rw (← order, vertex-at (stepAt found) n k noStep (omega arith)) (fits .degree k (omega arith));
+    }
+
+-- Every listing fits.
+listing-for : (s : List ℕ) (v : Verdict) → firstOf (networkFault edition s) (operationsFault (networkOf s)) ≡ v
+    → length (listingFor v (networkOf s)) ≤ listingRoom
+unfolding listingFor
+listing-for s fine e =
+    let h = first-fine _ _ e in
+    result-fits _ _ (result-limited s (in-range edition s (h .0)) (operations-fine (networkOf s) (h .1)))
+listing-for s (fault number place) e =
+    let placed = placed-fault 8 6656 _ number place (operations-placed s) e in
+    omega (arith, refused-most number place (omega (arith, placed .high)) (omega (arith, placed .inside)))
+
+pub listing-fits : (s : List ℕ) → length (listing s) ≤ listingRoom
+unfolding listing
+listing-fits s = listing-for s _ refl

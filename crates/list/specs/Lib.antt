@@ -1,0 +1,6 @@
+pub mod Listing
+pub mod LineLengths
+pub mod Lengths
+pub mod Promise
+pub mod Analysed
+pub mod Unique
