@@ -1,0 +1,4 @@
+pub mod Codes
+pub mod Bounds
+pub mod Doors
+pub mod Unique
