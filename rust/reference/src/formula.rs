@@ -1,0 +1,198 @@
+//! Formula records, the rules that make them (the outline, "Making a formula record") and their truth.
+
+use std::collections::HashMap;
+
+/// "Constant false is reference 0, constant true is reference 1"; then the variables, then the records.
+pub type Reference = u16;
+const FALSE: Reference = 0;
+const TRUE: Reference = 1;
+
+/// The kind of a formula, with its number in both file forms.
+#[derive(Debug, Clone, Copy, PartialEq, Eq, Hash)]
+pub enum Kind {
+    And = 1,
+    Or = 2,
+    Not = 3,
+}
+
+impl Kind {
+    /// "kind (1 and, 2 or, 3 not)"; no other number is one.
+    pub fn of(number: u16) -> Option<Kind> {
+        [Kind::And, Kind::Or, Kind::Not]
+            .into_iter()
+            .find(|&kind| kind as u16 == number)
+    }
+
+    /// The word of the listing's f line.
+    pub fn word(self) -> &'static str {
+        match self {
+            Kind::And => "and",
+            Kind::Or => "or",
+            Kind::Not => "not",
+        }
+    }
+}
+
+/// "kind, first, second": a record, and likewise a given formula of the file.
+#[derive(Debug, Clone, Copy, PartialEq, Eq, Hash)]
+pub struct Record {
+    pub kind: Kind,
+    pub first: Reference,
+    pub second: Reference,
+}
+
+/// All records made so far, in order, and each one's reference for rule 6.
+pub struct Formulas {
+    variables: usize,
+    records: Vec<Record>,
+    references: HashMap<Record, Reference>,
+}
+
+impl Formulas {
+    /// No records yet; "record k has reference 2+p+k".
+    pub fn new(variables: usize) -> Formulas {
+        Formulas {
+            variables,
+            records: Vec::new(),
+            references: HashMap::new(),
+        }
+    }
+
+    /// The records in the order of their making.
+    pub fn records(&self) -> &[Record] {
+        &self.records
+    }
+
+    /// "An operation on references gives a reference"; the second argument of not is not looked at.
+    pub fn ask(&mut self, kind: Kind, first: Reference, second: Reference) -> Reference {
+        match kind {
+            Kind::And => self.and(first, second),
+            Kind::Or => self.or(first, second),
+            Kind::Not => self.not(first),
+        }
+    }
+
+    /// and, by rules 1 ("the smaller goes first"), 2, 3, 4 and then 6 and 7.
+    pub fn and(&mut self, one: Reference, other: Reference) -> Reference {
+        let (first, second) = (one.min(other), one.max(other));
+        if first == FALSE {
+            FALSE
+        } else if first == TRUE || first == second {
+            second
+        } else if self.negated(second) == Some(first) {
+            FALSE
+        } else {
+            self.record(Kind::And, first, second)
+        }
+    }
+
+    /// or, by rules 1 ("the smaller goes first"), 2, 3, 4 and then 6 and 7.
+    pub fn or(&mut self, one: Reference, other: Reference) -> Reference {
+        let (first, second) = (one.min(other), one.max(other));
+        if first == TRUE {
+            TRUE
+        } else if first == FALSE || first == second {
+            second
+        } else if self.negated(second) == Some(first) {
+            TRUE
+        } else {
+            self.record(Kind::Or, first, second)
+        }
+    }
+
+    /// not, by rule 5 ("0 gives 1, 1 gives 0, a not record gives its argument") and then 6 and 7.
+    pub fn not(&mut self, argument: Reference) -> Reference {
+        match (argument, self.negated(argument)) {
+            (FALSE, _) => TRUE,
+            (TRUE, _) => FALSE,
+            (_, Some(inner)) => inner,
+            (_, None) => self.record(Kind::Not, argument, 0),
+        }
+    }
+
+    /// The argument of a not record; none for every other reference.
+    fn negated(&self, reference: Reference) -> Option<Reference> {
+        let index = usize::from(reference).checked_sub(2 + self.variables)?;
+        let record = self.records[index];
+        (record.kind == Kind::Not).then_some(record.first)
+    }
+
+    /// Rule 6, the record that exists already, or rule 7, "a new record after the last".
+    fn record(&mut self, kind: Kind, first: Reference, second: Reference) -> Reference {
+        let record = Record {
+            kind,
+            first,
+            second,
+        };
+        let next = 2 + self.variables + self.records.len();
+        *self.references.entry(record).or_insert_with(|| {
+            self.records.push(record);
+            Reference::try_from(next)
+                .expect("the outline's limits keep references far below 65,536")
+        })
+    }
+}
+
+/// The truth of every reference, ascending, where setting byte i decides variable i.
+pub fn values(setting: &[u8], records: &[Record]) -> Vec<bool> {
+    let mut values = vec![false, true];
+    values.extend(setting.iter().map(|&byte| byte == 1));
+    for record in records {
+        let first = values[usize::from(record.first)];
+        let second = values[usize::from(record.second)];
+        values.push(match record.kind {
+            Kind::And => first && second,
+            Kind::Or => first || second,
+            Kind::Not => !first,
+        });
+    }
+    values
+}
+
+#[cfg(test)]
+mod tests {
+    use super::*;
+
+    /// Rules 1 to 3: the smaller goes first, constants and equal arguments give no record.
+    #[test]
+    fn constants_and_equal_arguments() {
+        let mut formulas = Formulas::new(2);
+        for x in 0..4 {
+            assert_eq!((formulas.and(0, x), formulas.and(x, 0)), (0, 0));
+            assert_eq!((formulas.and(1, x), formulas.and(x, 1)), (x, x));
+            assert_eq!((formulas.or(0, x), formulas.or(x, 0)), (x, x));
+            assert_eq!((formulas.or(1, x), formulas.or(x, 1)), (1, 1));
+            assert_eq!((formulas.and(x, x), formulas.or(x, x)), (x, x));
+        }
+        assert_eq!(formulas.records(), []);
+    }
+
+    /// Rules 4 and 5: a formula and its not record, either way round, and not of a not record.
+    #[test]
+    fn negations() {
+        let mut formulas = Formulas::new(2);
+        assert_eq!((formulas.not(0), formulas.not(1)), (1, 0));
+        assert_eq!(formulas.not(3), 4);
+        assert_eq!(formulas.not(4), 3);
+        assert_eq!((formulas.or(3, 4), formulas.or(4, 3)), (1, 1));
+        assert_eq!((formulas.and(3, 4), formulas.and(4, 3)), (0, 0));
+        assert_eq!(formulas.records().len(), 1);
+        assert_eq!((formulas.and(2, 4), formulas.or(2, 4)), (5, 6));
+    }
+
+    /// Rules 6 and 7: one record for both argument orders, and another for another kind.
+    #[test]
+    fn existing_and_new_records() {
+        let mut formulas = Formulas::new(2);
+        assert_eq!((formulas.and(3, 2), formulas.and(2, 3)), (4, 4));
+        assert_eq!((formulas.or(3, 2), formulas.not(2)), (5, 6));
+        assert_eq!((formulas.or(2, 3), formulas.not(2)), (5, 6));
+        let made: Vec<_> = formulas
+            .records()
+            .iter()
+            .map(|record| (record.kind, record.first, record.second))
+            .collect();
+        let expected = [(Kind::And, 2, 3), (Kind::Or, 2, 3), (Kind::Not, 2, 0)];
+        assert_eq!(made, expected);
+    }
+}
