@@ -1,0 +1,89 @@
+//! The benchmark: the proved library and the reference on the same files.
+
+use outside::cards::{cards, growing, Card};
+use outside::timing::{figures, stacks, Figures, EMULATED, ROUNDS};
+use std::env::consts::ARCH;
+use std::process::ExitCode;
+
+fn main() -> ExitCode {
+    match bench() {
+        Ok(()) => ExitCode::SUCCESS,
+        Err(message) => {
+            eprintln!("bench: {message}");
+            ExitCode::FAILURE
+        }
+    }
+}
+
+fn bench() -> Result<(), String> {
+    jorulbani::ready().map_err(|why| why.to_string())?;
+    heading();
+    let cards = cards();
+    println!("\nCards");
+    let limit = table(&cards)?;
+    println!("\nGrowth with the vertices, every pair linked");
+    table(&growing())?;
+    let records = limit.records;
+    println!("\nAt the limit there are {records} records; the library looks for one among them one by one, the reference by hashing.");
+    let [analyse, direct, list] = stacks(&cards[cards.len() - 1].file);
+    println!("Bytes of stack that one call of the library uses at the limit: analyse {analyse}, direct {direct}, list {list}.");
+    Ok(())
+}
+
+/// What is compared, and where.
+fn heading() {
+    println!("Machine: {ARCH}. Compared: one analysis of a file in memory, by the proved library and by the reference.");
+    println!("Each time is the best of {ROUNDS} rounds after a warm-up. An operation is one work or one join.");
+    if EMULATED {
+        println!("THE LIBRARY'S TIMES ARE THOSE OF EMULATED CODE AND SAY NOTHING ABOUT THE LIBRARY: it is x86-64 code and runs under");
+        println!("an emulator here. They are taken inside the emulated process. The reference is native {ARCH} code.");
+    } else {
+        println!("Both are called in this process, as native {ARCH} code.");
+    }
+}
+
+/// A line for each card. Gives the figures of the last.
+fn table(cards: &[Card]) -> Result<Figures, String> {
+    println!(
+        "{:52}{:^30}{:^30}{:>12}",
+        "", "library", "reference", "time ratio"
+    );
+    println!(
+        "{:20}{:>10}{:>10}{:>12}{side}{side}{:>12}",
+        "",
+        "work",
+        "joins",
+        "records",
+        "lib./ref.",
+        side = format_args!("{:>10}{:>10}{:>10}", "µs/file", "files/s", "ns/op."),
+    );
+    let mut last = None;
+    for card in cards {
+        let figures = figures(&card.file).map_err(|why| format!("{}: {why}", card.name))?;
+        line(&card.name, &figures);
+        last = Some(figures);
+    }
+    last.ok_or("no cards".to_string())
+}
+
+fn line(name: &str, figures: &Figures) {
+    let Figures {
+        work,
+        joins,
+        records,
+        ..
+    } = figures;
+    print!("{name:20}{work:>10}{joins:>10}{records:>12}");
+    for nanoseconds in [figures.library_nanoseconds, figures.reference_nanoseconds] {
+        let each = nanoseconds / figures.operations() as f64;
+        print!(
+            "{:>10.1}{:>10.0}{each:>10.1}",
+            nanoseconds / 1e3,
+            1e9 / nanoseconds
+        );
+    }
+    println!(
+        "{:>12.1}",
+        figures.library_nanoseconds / figures.reference_nanoseconds
+    );
+}
