@@ -166,21 +166,7 @@ mod tests {
 
     #[test]
     fn refusals_are_decoded() {
-        let causes = [
-            Cause::Cut,
-            Cause::Count,
-            Cause::Coil,
-            Cause::Kind,
-            Cause::Reference,
-            Cause::End,
-            Cause::Trailing,
-            Cause::Work,
-            Cause::ResultRoom,
-            Cause::SettingLength,
-            Cause::SettingByte,
-            Cause::AnswerRoom,
-        ];
-        for (number, cause) in (1..).zip(causes) {
+        for (number, cause) in (1..).zip(Cause::ALL) {
             let refusal = decoded(number * UPPER + 6_656, 0).unwrap_err();
             assert_eq!(refusal.cause(), cause);
             assert_eq!(u64::from(refusal.number()), number);
