@@ -1,6 +1,6 @@
 -- The result form.
 use mathlib.Core.List.{List, [], _∷_, _++_, map, flatMap}
-use Prim.Native.Nat.{ℕ, _+_}
+use Prim.Native.Nat.{ℕ}
 use lib.ListN.{length}
 use Rattle.elimination.specs.Plan.{planOf, workOf}
 use Rattle.form.specs.Numbers.{bytesOf}

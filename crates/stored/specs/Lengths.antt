@@ -1,66 +1,26 @@
 -- How long results are: where the bytes of one end, and that it takes no more than the room that is asked for it.
-use mathlib.Core.Path.{_≡_, refl, sym, ap, _∙_}
+use mathlib.Core.Path.{_≡_, sym, ap, _∙_}
 use mathlib.Core.List.{List, _++_}
 use Prim.Native.Nat.{ℕ, _+_, _*_, _≤_}
 use native.Mathlib.Omega.{arith}
-use lib.ListN.{length, length-append}
-use Rattle.analysis.specs.Result.{eliminated, section, single, stepEntry, Stored, resultIn, resultNumbers, resultOf}
+use lib.ListN.{length}
+use Rattle.analysis.specs.Lengths.{numbers-long, result-long}
+use Rattle.analysis.specs.Result.{Stored, resultIn, resultNumbers, resultOf}
 use Rattle.form.specs.Numbers.{wordAt}
-use Rattle.form.specs.References.{recordEntry}
 use Rattle.form.specs.Writing.{bytes-length}
-use Rattle.laws.specs.Flat.{flat-length}
-use Rattle.links.specs.ListLaws.{vertices-long}
-use Rattle.links.specs.Lists.{vertices}
-use Rattle.links.specs.Links.{order}
-use Rattle.links.specs.OrderLaws.{order-length, steps-length}
-use Rattle.links.specs.Switches.{linksOf}
 use Rattle.meaning.specs.Answers.{eliminated-standing}
 use Rattle.meaning.specs.Ranged.{Ranged}
 use Rattle.network.specs.Lists.{entries-length}
 use Rattle.network.specs.Network.{Network, variableSize, givenSize, vertexSize, variablesAt, givensAt, verticesAt, givenAt}
-use Rattle.sheet.specs.declared.Cell.the-variants.{Start}
 use Rattle.plan.specs.Measure.{operations, roomFor}
 use Rattle.stored.specs.Stored.{stepSize, figureSize, orderAt, figuresAt, stepAt, storedOf}
 use Rattle.stored.specs.StoredLaws.{stored-back}
 
--- The numbers of five sections with their counts.
-numbers-long : (r : Stored)
-    → length (resultNumbers r)
-    ≡ 5 + length (r .variables) + 3 * length (r .records) + length (r .answers) + 2 * length (r .order) + length (r .figures)
-unfolding resultNumbers
-numbers-long r =
-    let a = section single (r .variables) in
-    let b = section recordEntry (r .records) in
-    let c = section single (r .answers) in
-    let d = section stepEntry (r .order) in
-    let e = section single (r .figures) in
-    omega (
-      arith,
-      length-append a (b ++ (c ++ (d ++ e))),
-      length-append b (c ++ (d ++ e)),
-      length-append c (d ++ e),
-      length-append d e,
-      flat-length single 1 (λ x. refl) (r .variables),
-      flat-length recordEntry 3 (λ x. refl) (r .records),
-      flat-length single 1 (λ x. refl) (r .answers),
-      flat-length stepEntry 2 (λ x. refl) (r .order),
-      flat-length single 1 (λ x. refl) (r .figures),
-    )
-
+-- It takes no more than the room.
 pub result-within : (net : Network) → Ranged net → length (resultOf net) ≤ roomFor net
-unfolding resultOf resultIn roomFor operations
+unfolding resultOf roomFor operations
 result-within net ranged =
-    let n = length (net .starts) in
-    let g = linksOf (net .switches) in
-    omega (
-      arith,
-      bytes-length (resultNumbers (resultIn net)),
-      numbers-long (resultIn net),
-      vertices-long (λ v. eliminated net .cells (Start v)) n,
-      steps-length g (vertices n) (order n g),
-      order-length n g,
-      eliminated-standing net ranged .few,
-    )
+    omega (arith, bytes-length (resultNumbers (resultIn net)), result-long net, eliminated-standing net ranged .few)
 
 -- The counts that stand in a result's bytes are those of its lists.
 module _ (s : List ℕ) where

@@ -3,8 +3,9 @@ use mathlib.Core.Path.{_≡_, refl, sym, _∙_}
 use mathlib.Core.List.{List, [], _∷_, _++_, flatMap}
 use Prim.Native.Nat.{ℕ, _+_, _*_, _≤_}
 use native.Mathlib.Omega.{arith}
-use lib.ListN.{length, drop, length-append}
+use lib.ListN.{length, drop}
 use Rattle.laws.specs.Flat.{flat-length}
+use Rattle.analysis.specs.Lengths.{result-long}
 use Rattle.analysis.specs.Result.{eliminated, section, single, resultIn, resultNumbers, resultOf}
 use Rattle.elimination.specs.Plan.{workOf}
 use Rattle.form.specs.Numbers.{putWord, putNumbers}
@@ -21,7 +22,6 @@ use Rattle.records.specs.Bytes.{putRecords}
 use Rattle.sheet.specs.Cells.{cellsIn}
 use Rattle.sheet.specs.declared.Cell.{Cell}
 use Rattle.writer.specs.Last.{answersIn, figuresIn, lastNumbers, recordsAt, answersAt, resultLength, Finished}
-use Rattle.writer.specs.Lengths.{last-long}
 use Rattle.writer.specs.Steps.{steps-are}
 
 -- The bytes of a network's result are written, and their number is given; bytes of the buffer beyond them stay as they came.
@@ -60,11 +60,7 @@ module _ (s : List ℕ) (parts : Sections) (layout : Layout s parts) (found : Pl
     records-long = omega (arith, flat-length recordEntry 3 (λ x. refl) (eliminated (networkOf s) .records))
 
     whole-long : 2 * length (resultNumbers (resultIn (networkOf s))) ≡ resultLength parts count
-    whole-long =
-        let xs = section single (networkOf s .variables) in
-        let ys = section recordEntry (eliminated (networkOf s) .records) in
-        let zs = lastNumbers parts found cells in
-        rw numbers-are (omega (arith, length-append xs (ys ++ zs), length-append ys zs, variables-long, records-long, last-long parts found cells))
+    whole-long = omega (arith, result-long (networkOf s), variables-length layout, starts-length layout)
 
     -- They are written one after another, but for the records' count.
     all-written : (before first second after : List ℕ) (r : ℕ)
