@@ -4,7 +4,7 @@ use mathlib.Core.List.{List}
 use Prim.Native.Nat.{ℕ, _≤_}
 use native.Mathlib.Omega.{arith}
 use lib.Dec.{ltb}
-use Rattle.form.specs.Placed.{PlacedIn, placed-first, placed-if, placed-more}
+use Rattle.form.specs.Placed.{PlacedIn, placed-first, placed-if}
 use Rattle.form.specs.Refusals.{Verdict, fine, fault, firstOf}
 use Rattle.form.specs.Verdicts.{above-fine}
 use Rattle.network.specs.Faults.{networkFault}
@@ -38,16 +38,10 @@ module _ (s : List ℕ) where
   unfolding analysisFault roomFault
   fault-in-room = first-last (networkFault edition s) (operationsFault (networkOf s)) _ (λ e o. sym (above-fine 9 0 (room-most e o)))
 
-  -- The numbers and places of 1 to 8, and of 1 to 9.
-  pub operations-placed : PlacedIn 8 6656 (firstOf (networkFault edition s) (operationsFault (networkOf s)))
-  unfolding operationsFault
-  operations-placed =
-      placed-first 8 6656 _ _ (placed-more 7 6656 8 6656 (omega arith) (omega arith) _ (network-placed 6656 edition s (omega arith)))
-      (λ e. placed-if 8 6656 (ltb 10000 (operations (networkOf s))) 8 0 (omega arith))
-
-  pub analysis-placed : (room : ℕ) → PlacedIn 9 6656 (analysisFault edition s room)
+  -- The numbers and places of 1 to 9.
+  pub analysis-placed : (room : ℕ) → PlacedIn 6656 (analysisFault edition s room)
   unfolding analysisFault operationsFault roomFault
   analysis-placed room =
-      placed-first 9 6656 _ _ (placed-more 7 6656 9 6656 (omega arith) (omega arith) _ (network-placed 6656 edition s (omega arith)))
-      (λ e. placed-first 9 6656 _ _ (placed-if 9 6656 (ltb 10000 (operations (networkOf s))) 8 0 (omega arith))
-      (λ e. placed-if 9 6656 (ltb room (roomFor (networkOf s))) 9 0 (omega arith)))
+      placed-first 6656 _ _ (network-placed 6656 edition s (omega arith))
+      (λ e. placed-first 6656 _ _ (placed-if 6656 (ltb 10000 (operations (networkOf s))) 8 0 (omega arith))
+      (λ e. placed-if 6656 (ltb room (roomFor (networkOf s))) 9 0 (omega arith)))

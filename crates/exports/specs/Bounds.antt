@@ -11,7 +11,7 @@ use Rattle.analysis.specs.Analysis.{analysisFault, analysis, lengthIn}
 use Rattle.analysis.specs.Result.{resultOf}
 use Rattle.analysis.specs.Room.{room-most, analysis-placed}
 use Rattle.direct.specs.Direct.{firstBad, lengthFault, byteFault, answerRoomFault, directFault, directAnswer}
-use Rattle.form.specs.Placed.{PlacedIn, placed-first, placed-if, placed-more}
+use Rattle.form.specs.Placed.{PlacedIn, placed-first, placed-if}
 use Rattle.form.specs.Refusals.{Verdict, fine, fault, answer}
 use Rattle.form.specs.Verdicts.{if-fine, first-fine}
 use Rattle.laws.specs.Tests.{byTest}
@@ -27,7 +27,7 @@ use Rattle.stored.specs.Lengths.{result-within}
 use Rattle.exports.specs.Codes.{upper, Narrow}
 
 -- An answer whose verdict is placed, and that gives little.
-answer-narrow : (v : Verdict) (n : ℕ) → PlacedIn 12 6656 v → (v ≡ fine → n < upper) → Narrow (answer v n)
+answer-narrow : (v : Verdict) (n : ℕ) → PlacedIn 6656 v → (v ≡ fine → n < upper) → Narrow (answer v n)
 unfolding PlacedIn
 answer-narrow fine n h few = few refl
 answer-narrow (fault number place) n h few = (h .low, h .high, omega (arith, h .inside))
@@ -56,24 +56,24 @@ module _ (s : List ℕ) where
   unfolding analysis
   analysis-narrow room =
       rw (length-of-answer (analysisFault edition s room) (resultOf (networkOf s)))
-      (answer-narrow _ _ (placed-more 9 6656 12 6656 (omega arith) (omega arith) _ (analysis-placed s room)) (result-short room))
+      (answer-narrow _ _ (analysis-placed s room) (result-short room))
 
   module _ (setting : List ℕ) (room : ℕ) where
     -- A setting of the right length has at most as many bytes as a file may have variables.
-    bad-placed : networkFault edition s ≡ fine → lengthFault (length (networkOf s .variables)) setting ≡ fine → PlacedIn 12 6656 (byteFault setting)
+    bad-placed : networkFault edition s ≡ fine → lengthFault (length (networkOf s .variables)) setting ≡ fine → PlacedIn 6656 (byteFault setting)
     unfolding lengthFault byteFault
     bad-placed e f =
         let file = in-range edition s e in
         let l : length setting ≡ length (networkOf s .variables) = eqb-true _ _ (not-false _ (if-fine _ _ _ f)) in
         let few : firstBad setting ≤ 6656 = omega (arith, bad-within setting, variables-length (file .layout), file .within .variables) in
-        placed-if 12 6656 (ltb (firstBad setting) (length setting)) 11 (firstBad setting) (omega arith, omega arith, few)
+        placed-if 6656 (ltb (firstBad setting) (length setting)) 11 (firstBad setting) (omega arith, omega arith, few)
 
-    direct-placed : PlacedIn 12 6656 (directFault edition s setting room)
+    direct-placed : PlacedIn 6656 (directFault edition s setting room)
     unfolding directFault lengthFault answerRoomFault
     direct-placed =
-        placed-first 12 6656 _ _ (placed-more 7 6656 12 6656 (omega arith) (omega arith) _ (network-placed 6656 edition s (omega arith)))
-        (λ e. placed-first 12 6656 _ _ (placed-if 12 6656 (not (eqb (length setting) (length (networkOf s .variables)))) 10 0 (omega arith))
-        (λ f. placed-first 12 6656 _ _ (bad-placed e f) (λ g. placed-if 12 6656 (ltb room (length (networkOf s .starts))) 12 0 (omega arith))))
+        placed-first 6656 _ _ (network-placed 6656 edition s (omega arith))
+        (λ e. placed-first 6656 _ _ (placed-if 6656 (not (eqb (length setting) (length (networkOf s .variables)))) 10 0 (omega arith))
+        (λ f. placed-first 6656 _ _ (bad-placed e f) (λ g. placed-if 6656 (ltb room (length (networkOf s .starts))) 12 0 (omega arith))))
 
     answered-sound : directFault edition s setting room ≡ fine → Sound edition s (sectionsOf s)
     unfolding directFault

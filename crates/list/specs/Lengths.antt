@@ -5,7 +5,7 @@ use Prim.Native.Nat.{ℕ, _+_, _*_, _<_, _≤_}
 use native.Mathlib.Omega.{arith}
 use lib.ListN.{length, getD, length-append}
 use Rattle.analysis.specs.Result.{Stored, eliminated, resultIn}
-use Rattle.analysis.specs.Room.{operations-placed}
+use Rattle.analysis.specs.Room.{resultRoom, fault-in-room, analysis-placed}
 use Rattle.form.specs.References.{formula}
 use Rattle.form.specs.Refusals.{Verdict, fine, fault, firstOf}
 use Rattle.form.specs.Placed.{placed-fault}
@@ -112,7 +112,7 @@ listing-for s fine e =
     let h = first-fine _ _ e in
     result-fits _ _ (result-limited s (in-range edition s (h .0)) (operations-fine (networkOf s) (h .1)))
 listing-for s (fault number place) e =
-    let placed = placed-fault 8 6656 _ number place (operations-placed s) e in
+    let placed = placed-fault 6656 _ number place (rw (fault-in-room s) at (analysis-placed s resultRoom)) e in
     omega (arith, refused-most number place (omega (arith, placed .high)) (omega (arith, placed .inside)))
 
 pub listing-fits : (s : List ℕ) → length (listing s) ≤ listingRoom

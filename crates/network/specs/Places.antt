@@ -23,79 +23,79 @@ longest limits = 8 + 2 * limits .variables + 6 * limits .givens + 2 * limits .ve
 module _ (last : ℕ) where
   -- The tests of a number are placed at its start,
   module _ (s : List ℕ) (at : ℕ) (h : at ≤ last) where
-    cut-placed : (size : ℕ) → PlacedIn 7 last (cutFault size s at)
+    cut-placed : (size : ℕ) → PlacedIn last (cutFault size s at)
     unfolding cutFault
-    cut-placed size = placed-if 7 last (ltb (length s) (at + size)) 1 at (omega arith)
+    cut-placed size = placed-if last (ltb (length s) (at + size)) 1 at (omega arith)
 
-    count-placed : (limit : ℕ) → PlacedIn 7 last (countFault limit s at)
+    count-placed : (limit : ℕ) → PlacedIn last (countFault limit s at)
     unfolding countFault
-    count-placed limit = placed-if 7 last (ltb limit (wordAt s at)) 2 at (omega arith)
+    count-placed limit = placed-if last (ltb limit (wordAt s at)) 2 at (omega arith)
 
-    coil-placed : (k : ℕ) → PlacedIn 7 last (coilFault s at k)
+    coil-placed : (k : ℕ) → PlacedIn last (coilFault s at k)
     unfolding coilFault
-    coil-placed k = placed-if 7 last (ltb 0 k && leb (wordAt s at) (wordAt s (at - 2))) 3 at (omega arith)
+    coil-placed k = placed-if last (ltb 0 k && leb (wordAt s at) (wordAt s (at - 2))) 3 at (omega arith)
 
-    kind-placed : PlacedIn 7 last (kindFault s at)
+    kind-placed : PlacedIn last (kindFault s at)
     unfolding kindFault
-    kind-placed = placed-if 7 last (not (eqb (wordAt s at) 1 || eqb (wordAt s at) 2 || eqb (wordAt s at) 3)) 4 at (omega arith)
+    kind-placed = placed-if last (not (eqb (wordAt s at) 1 || eqb (wordAt s at) 2 || eqb (wordAt s at) 3)) 4 at (omega arith)
 
-    reference-placed : (defined : ℕ) → PlacedIn 7 last (referenceFault defined s at)
+    reference-placed : (defined : ℕ) → PlacedIn last (referenceFault defined s at)
     unfolding referenceFault
-    reference-placed defined = placed-if 7 last (leb defined (wordAt s at)) 5 at (omega arith)
+    reference-placed defined = placed-if last (leb defined (wordAt s at)) 5 at (omega arith)
 
-    end-placed : (vertices : ℕ) → PlacedIn 7 last (endFault vertices s at)
+    end-placed : (vertices : ℕ) → PlacedIn last (endFault vertices s at)
     unfolding endFault
-    end-placed vertices = placed-if 7 last (leb vertices (wordAt s at)) 6 at (omega arith)
+    end-placed vertices = placed-if last (leb vertices (wordAt s at)) 6 at (omega arith)
 
-    trailing-placed : PlacedIn 7 last (trailingFault s at)
+    trailing-placed : PlacedIn last (trailingFault s at)
     unfolding trailingFault
-    trailing-placed = placed-if 7 last (ltb at (length s)) 7 at (omega arith)
+    trailing-placed = placed-if last (ltb at (length s)) 7 at (omega arith)
 
   -- and those of an entry inside it.
   module _ (s : List ℕ) (at k : ℕ) where
-    given-placed : (p : ℕ) → at + givenSize ≤ last → PlacedIn 7 last (givenFault p s at k)
+    given-placed : (p : ℕ) → at + givenSize ≤ last → PlacedIn last (givenFault p s at k)
     unfolding givenFault
     given-placed p h =
-        placed-first 7 last _ _ (kind-placed s at (omega arith))
-        (λ e. placed-first 7 last _ _ (reference-placed s (at + 2) (omega arith) _) (λ e. reference-placed s (at + 4) (omega arith) _))
+        placed-first last _ _ (kind-placed s at (omega arith))
+        (λ e. placed-first last _ _ (reference-placed s (at + 2) (omega arith) _) (λ e. reference-placed s (at + 4) (omega arith) _))
 
-    vertex-placed : (defined : ℕ) → at + vertexSize ≤ last → PlacedIn 7 last (vertexFault defined s at k)
+    vertex-placed : (defined : ℕ) → at + vertexSize ≤ last → PlacedIn last (vertexFault defined s at k)
     unfolding vertexFault
     vertex-placed defined h = reference-placed s at (omega arith) defined
 
-    switch-placed : (vertices defined : ℕ) → at + switchSize ≤ last → PlacedIn 7 last (switchFault vertices defined s at k)
+    switch-placed : (vertices defined : ℕ) → at + switchSize ≤ last → PlacedIn last (switchFault vertices defined s at k)
     unfolding switchFault
     switch-placed vertices defined h =
-        placed-first 7 last _ _ (end-placed s at (omega arith) vertices)
-        (λ e. placed-first 7 last _ _ (end-placed s (at + 2) (omega arith) vertices)
-        (λ e. placed-first 7 last _ _ (reference-placed s (at + 4) (omega arith) defined) (λ e. reference-placed s (at + 6) (omega arith) defined)))
+        placed-first last _ _ (end-placed s at (omega arith) vertices)
+        (λ e. placed-first last _ _ (end-placed s (at + 2) (omega arith) vertices)
+        (λ e. placed-first last _ _ (reference-placed s (at + 4) (omega arith) defined) (λ e. reference-placed s (at + 6) (omega arith) defined)))
 
   -- Entries and sections whose test is placed inside its entry.
   module _ (size : ℕ) (test : List ℕ → ℕ → ℕ → Verdict) (s : List ℕ)
-      (tested : (at k : ℕ) → at + size ≤ last → PlacedIn 7 last (test s at k)) where
-    entries-placed : (at k n : ℕ) → at + size * n ≤ last → PlacedIn 7 last (entriesFault size test s at k n)
+      (tested : (at k : ℕ) → at + size ≤ last → PlacedIn last (test s at k)) where
+    entries-placed : (at k n : ℕ) → at + size * n ≤ last → PlacedIn last (entriesFault size test s at k n)
     unfolding entriesFault
-    entries-placed at k zero h = placed-fine 7 last
+    entries-placed at k zero h = placed-fine last
     entries-placed at k (suc n) h =
         let i : at + size + size * n ≤ last = omega (arith, mul-suc size n) in
-        placed-first 7 last _ _ (cut-placed s at (omega arith) size)
-        (λ e. placed-first 7 last _ _ (tested at k (omega arith)) (λ e. entries-placed (at + size) (k + 1) n i))
+        placed-first last _ _ (cut-placed s at (omega arith) size)
+        (λ e. placed-first last _ _ (tested at k (omega arith)) (λ e. entries-placed (at + size) (k + 1) n i))
 
-    section-placed : (limit at : ℕ) → at + 2 + size * limit ≤ last → PlacedIn 7 last (sectionFault limit size test s at)
+    section-placed : (limit at : ℕ) → at + 2 + size * limit ≤ last → PlacedIn last (sectionFault limit size test s at)
     unfolding sectionFault
     section-placed limit at h =
-        placed-first 7 last _ _ (cut-placed s at (omega arith) 2)
-        (λ e. placed-first 7 last _ _ (count-placed s at (omega arith) limit)
+        placed-first last _ _ (cut-placed s at (omega arith) 2)
+        (λ e. placed-first last _ _ (count-placed s at (omega arith) limit)
         (λ e. entries-placed (at + 2) 0 (wordAt s at) (omega (arith, mul-le-mul-left size (count-fine s limit at e)))))
 
     -- What comes after a section may go by its count.
-    section-then : (limit at : ℕ) (later : Verdict) → at + 2 + size * limit ≤ last → (wordAt s at ≤ limit → PlacedIn 7 last later)
-        → PlacedIn 7 last (firstOf (sectionFault limit size test s at) later)
+    section-then : (limit at : ℕ) (later : Verdict) → at + 2 + size * limit ≤ last → (wordAt s at ≤ limit → PlacedIn last later)
+        → PlacedIn last (firstOf (sectionFault limit size test s at) later)
     section-then limit at later h next =
-        placed-first 7 last _ later (section-placed limit at h) (λ e. next (section-fine size test s limit at e .count))
+        placed-first last _ later (section-placed limit at h) (λ e. next (section-fine size test s limit at e .count))
 
   -- The whole file.
-  pub network-placed : (limits : Limits) (s : List ℕ) → longest limits ≤ last → PlacedIn 7 last (networkFault limits s)
+  pub network-placed : (limits : Limits) (s : List ℕ) → longest limits ≤ last → PlacedIn last (networkFault limits s)
   unfolding networkFault
   network-placed limits s h =
       section-then _ _ s (λ at k l. coil-placed s at (omega arith) k) _ _ _ (omega arith)
