@@ -1,9 +1,9 @@
 //! The benchmark's inputs.
 
-use crate::dressing::Labels;
-use crate::networks::{Network, Switch, MOST_VARIABLES, MOST_VERTICES};
+use crate::dressing::{wired, Labels};
+use crate::networks::{Network, MOST_VERTICES};
 use crate::seeded::Seeded;
-use crate::shapes::{self, Shape};
+use crate::shapes;
 use crate::sound;
 
 const SEED: u64 = 1;
@@ -53,28 +53,5 @@ fn card(name: &str, network: &Network) -> Card {
     Card {
         name: name.to_string(),
         file: network.encode(),
-    }
-}
-
-/// A network with a coil for each switch, as long as there are coils, and a source at vertex 0.
-fn wired(shape: &Shape) -> Network {
-    let coils = shape.ends.len().min(MOST_VARIABLES) as u16;
-    let switch = |(index, &(first, second)): (usize, &(usize, usize))| {
-        let label = 2 + index as u16 % coils;
-        let (first, second) = (first as u16, second as u16);
-        Switch {
-            first,
-            second,
-            there: label,
-            back: label,
-        }
-    };
-    Network {
-        coils: (1..=coils).collect(),
-        givens: Vec::new(),
-        starts: (0..shape.vertices)
-            .map(|vertex| u16::from(vertex == 0))
-            .collect(),
-        switches: shape.ends.iter().enumerate().map(switch).collect(),
     }
 }

@@ -254,11 +254,14 @@ pub fn same_text(text: &str, expected: &str) -> Result<(), Difference> {
     if text == expected {
         return Ok(());
     }
-    let line = |text: &str, index| text.split('\n').nth(index).map(str::to_string);
-    let differs = |&index: &usize| line(text, index) != line(expected, index);
-    let index = (0..).find(differs).unwrap_or(0);
-    let (is, should) = (line(text, index), line(expected, index));
+    let line = |text: &str, number: usize| match text.split('\n').nth(number - 1) {
+        Some(line) => format!("'{line}'"),
+        None => "missing".to_string(),
+    };
+    let differs = |&number: &usize| line(text, number) != line(expected, number);
+    let number = (1..).find(differs).unwrap_or(1);
+    let (is, should) = (line(text, number), line(expected, number));
     Err(format!(
-        "line {index} of the listing is {is:?}, not {should:?}"
+        "line {number} of the listing is {is}, not {should}"
     ))
 }

@@ -1,6 +1,6 @@
 //! Coils, given formulas, starts and labels for a bare network.
 
-use crate::networks::{Given, Network, Switch, AND, NOT, OR};
+use crate::networks::{Given, Network, Switch, AND, MOST_VARIABLES, NOT, OR};
 use crate::seeded::Seeded;
 use crate::shapes::Shape;
 
@@ -54,6 +54,29 @@ pub fn dressed(seeded: &mut Seeded, shape: &Shape, dressing: Dressing) -> Networ
         });
     }
     network
+}
+
+/// A network with a coil for each switch, as long as there are coils, and a source at vertex 0.
+pub fn wired(shape: &Shape) -> Network {
+    let coils = shape.ends.len().min(MOST_VARIABLES) as u16;
+    let switch = |(index, &(first, second)): (usize, &(usize, usize))| {
+        let label = 2 + index as u16 % coils;
+        let (first, second) = (first as u16, second as u16);
+        Switch {
+            first,
+            second,
+            there: label,
+            back: label,
+        }
+    };
+    Network {
+        coils: (1..=coils).collect(),
+        givens: Vec::new(),
+        starts: (0..shape.vertices)
+            .map(|vertex| u16::from(vertex == 0))
+            .collect(),
+        switches: shape.ends.iter().enumerate().map(switch).collect(),
+    }
 }
 
 /// Strictly ascending coil numbers; now and then the first is 0 or the last is 65,535.

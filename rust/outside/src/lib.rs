@@ -7,6 +7,7 @@ pub mod cases;
 pub mod compare;
 pub mod dressing;
 pub mod faults;
+pub mod handmade;
 pub mod lent;
 pub mod networks;
 pub mod program;
@@ -16,6 +17,7 @@ pub mod shapes;
 pub mod sound;
 pub mod tally;
 pub mod timing;
+pub mod vectors;
 
 use std::path::{Path, PathBuf};
 

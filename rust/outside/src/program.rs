@@ -72,8 +72,14 @@ fn examples() -> Result<Vec<(String, Vec<u8>)>, String> {
     Ok(files)
 }
 
-/// Compares what the program prints for one file, and how much of the file it has read.
+/// Compares what the program prints for one file.
 fn compare(file: &[u8]) -> Result<(), String> {
+    let read = &file[..file.len().min(READ)];
+    same_text(&listed(file)?, &reference::listing(read))
+}
+
+/// What the program prints for a file, of which it must read no more and no less than it is said to.
+pub fn listed(file: &[u8]) -> Result<String, String> {
     let path = root().join(FOLDER).join("listing.net");
     let failed = |why: std::io::Error| format!("{}: {why}", path.display());
     fs::create_dir_all(root().join(FOLDER)).map_err(failed)?;
@@ -90,10 +96,9 @@ fn compare(file: &[u8]) -> Result<(), String> {
         return Err(format!("{}: {message}", output.status));
     }
     let read = input.stream_position().map_err(failed)? as usize;
-    let expected = &file[..file.len().min(READ)];
-    if read != expected.len() {
-        return Err(format!("it has read {read} bytes, not {}", expected.len()));
+    let expected = file.len().min(READ);
+    if read != expected {
+        return Err(format!("it has read {read} bytes, not {expected}"));
     }
-    let text = String::from_utf8_lossy(&output.stdout);
-    same_text(&text, &reference::listing(expected))
+    Ok(String::from_utf8_lossy(&output.stdout).into_owned())
 }
