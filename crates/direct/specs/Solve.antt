@@ -5,7 +5,7 @@ use mathlib.Core.Bool.{Bool, So, _&&_, false≢true}
 use mathlib.Core.List.{List}
 use Prim.Native.Nat.{ℕ, _+_, _<_, _≤_}
 use native.Mathlib.Omega.{arith}
-use borrow.Author.Tests.{eq-eqb, ne-eqb, lt-ltb, le-ltb, ltb-true, ltb-false}
+use borrow.Author.Tests.{lt-ltb, le-ltb, ltb-true, ltb-false}
 use lib.Dec.{eqb, ltb}
 use lib.ListN.{length, getD, set, drop, replicate, length-set}
 use lib.Seq.{getD-set-same, getD-set-other, drop-set-lt}
@@ -86,13 +86,6 @@ module _ (marks : List ℕ) (n : ℕ) (before : List ℕ) where
 
     pub written-all : n ≤ k → Written marks n before after n
     written-all h = let e : k ≡ n = omega arith in rw e at inv
-
--- The ways out of `bit`.
-pub bit-one : (x : ℕ) → x ≡ 1 → 1 ≡ bitOf (eqb x 1)
-bit-one x e = rw (eq-eqb x 1 e)
-
-pub bit-zero : (x : ℕ) → (x ≡ 1 → ⊥) → 0 ≡ bitOf (eqb x 1)
-bit-zero x e = rw (ne-eqb x 1 e)
 
 -- The parts of `solve` make the answer: what is marked is reached, and what is reached is marked.
 module _ (s : List ℕ) (parts : Sections) (layout : Layout s parts) (setting values first last : List ℕ)

@@ -1,9 +1,7 @@
 // The direct answer for one setting: which vertices a path of closed contacts joins to a live source.
 ghost use mathlib.Core.Path.{_≡_};
 ghost use Prim.Native.Nat.{_<_, _≤_};
-ghost use lib.Dec.{eqb};
 ghost use lib.ListN.{length, replicate};
-ghost use Rattle.form.specs.Numbers.{bitOf};
 ghost use Rattle.form.specs.Refusals.{accepted};
 ghost use Rattle.network.specs.Layout.{Sound, networkAnswer};
 ghost use Rattle.network.specs.Network.{edition, side, networkOf};
@@ -110,16 +108,6 @@ fn begin(file: &[u8], parts: Sections, values: &[u8; PLACES], marks: &mut [u8; S
     }
 }
 
-// 1 for a mark, and else 0.
-fn bit(x: u8) -> u8
-    ensures { λ r. ⌜ r ≡ bitOf (eqb x 1) ⌝ }
-{
-    if x == 1 {
-        return 1;
-    }
-    0
-}
-
 // Writes a byte for each of the first n vertices.
 fn write(marks: &[u8; SIDE], n: usize, out: &mut [u8])
     requires { ⌜ (n ≤ side) × (n ≤ length (now out)) ⌝ }
@@ -127,7 +115,7 @@ fn write(marks: &[u8; SIDE], n: usize, out: &mut [u8])
 {
     let mut v = 0;
     while v < n {
-        out[v] = bit(marks[v]);
+        out[v] = form::bit(marks[v]);
         v += 1;
     }
 }

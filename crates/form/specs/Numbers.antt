@@ -2,7 +2,9 @@
 use mathlib.Core.Path.{_≡_, refl}
 use mathlib.Core.Bool.{Bool, true, false, cond}
 use mathlib.Core.List.{List, [], _∷_}
-use Prim.Native.Nat.{ℕ, _+_, _*_, _/_, _%_}
+use Prim.Native.Nat.{ℕ, _+_, _*_, _/_, _%_, _<_}
+use native.Mathlib.Omega.{arith}
+use borrow.Author.Tests.{eq-eqb, ne-eqb}
 use lib.Dec.{eqb}
 use lib.ListN.{getD, set}
 
@@ -32,3 +34,14 @@ bitOf b = cond b 1 0
 pub bit-back : (b : Bool) → eqb (bitOf b) 1 ≡ b
 bit-back true = refl
 bit-back false = refl
+
+pub bit-below : (b : Bool) → bitOf b < 2
+bit-below true = omega arith
+bit-below false = omega arith
+
+-- The ways out of `bit`.
+pub bit-one : (x : ℕ) → x ≡ 1 → 1 ≡ bitOf (eqb x 1)
+bit-one x e = rw (eq-eqb x 1 e)
+
+pub bit-zero : (x : ℕ) → (x ≡ 1 → ⊥) → 0 ≡ bitOf (eqb x 1)
+bit-zero x e = rw (ne-eqb x 1 e)

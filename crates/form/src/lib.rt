@@ -1,8 +1,9 @@
 // What every file is made of: 16-bit numbers, references and formulas; and how a call is refused.
 ghost use mathlib.Core.Path.{_≡_};
 ghost use Prim.Native.Nat.{_+_, _<_, _≤_};
+ghost use lib.Dec.{eqb};
 ghost use lib.ListN.{length};
-ghost use Rattle.form.specs.Numbers.{wordAt, putWord};
+ghost use Rattle.form.specs.Numbers.{wordAt, putWord, bitOf};
 ghost use Rattle.form.specs.Refusals.{numberOf, placeOf};
 ghost use Rattle.form.specs.References.{variable};
 
@@ -122,4 +123,14 @@ pub fn put_word(s: &mut [u8], at: usize, v: u16)
 {
     s[at] = (v % 256) as u8;
     s[at + 1] = (v / 256) as u8;
+}
+
+// 1 for 1, and 0 for any other byte.
+pub fn bit(x: u8) -> u8
+    ensures { λ r. ⌜ r ≡ bitOf (eqb x 1) ⌝ }
+{
+    if x == 1 {
+        return 1;
+    }
+    0
 }

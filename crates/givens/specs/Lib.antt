@@ -1,2 +1,3 @@
 pub mod Passed
 pub mod Passing
+pub mod Unique

@@ -1,3 +1,4 @@
 pub mod Then
 pub mod Runs
 pub mod Ways
+pub mod Unique

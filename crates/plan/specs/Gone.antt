@@ -8,11 +8,12 @@ use borrow.Author.Tests.{ltb-true, ltb-false}
 use lib.Dec.{eqb, ltb}
 use lib.ListN.{length, getD, set, length-set, List·getD-eq-default}
 use lib.Seq.{getD-set-same, getD-set-other}
-use Rattle.laws.specs.Tests.{byTest, bySame, byChoice}
-use Rattle.form.specs.Numbers.{bitOf, bit-back}
+use Rattle.laws.specs.Bits.{Bits}
+use Rattle.laws.specs.Tests.{byTest, bySame}
+use Rattle.form.specs.Numbers.{bitOf, bit-back, bit-below}
 use Rattle.links.specs.Links.{gone}
 use Rattle.network.specs.Network.{side}
-use Rattle.plan.specs.Matrix.{linksIn, Bits, linked-is, is-linked, not-linked, beyond-row, beyond-column}
+use Rattle.plan.specs.Matrix.{linksIn, linked-is, is-linked, not-linked, beyond-row, beyond-column}
 
 -- Whether u and v are linked once p is eliminated.
 unfoldable pub joinedBy : List ℕ → ℕ → ℕ → ℕ → ℕ
@@ -82,8 +83,7 @@ module _ (old : List ℕ) (p : ℕ) where
     going-bits h j =
         byTest (ltb j (side * side))
         (λ t. let l = ltb-true j (side * side) t in
-        rw (inv .done j (omega arith))
-        (byChoice (λ (x : ℕ). x < 2) (gone p (linksIn old) (j / side) (j % side)) 1 0 (λ e. omega arith) (λ e. omega arith)))
+        rw (inv .done j (omega arith)) (bit-below (gone p (linksIn old) (j / side) (j % side))))
         (λ t. let l = ltb-false j (side * side) t in rw (List·getD-eq-default links 0 {n = j} (omega (arith, inv .long))) (omega arith))
 
     pub going-all : side * side ≤ k → length old ≡ side * side → linksIn links ≡ gone p (linksIn old)

@@ -9,3 +9,4 @@ pub mod Measure
 pub mod Rows
 pub mod Planned
 pub mod PlanLaws
+pub mod Unique

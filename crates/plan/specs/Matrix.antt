@@ -21,10 +21,6 @@ use Rattle.network.specs.Network.{side}
 unfoldable pub linksIn : List ℕ → Graph
 linksIn links u v = ltb v side && eqb (getD links (side * u + v) 0) 1
 
--- Each byte of a table is 0 or 1, so that its links determine it.
-unfoldable pub Bits : List ℕ → Type 0
-Bits links = (j : ℕ) → getD links j 0 < 2
-
 -- v remains.
 unfoldable pub remains : List ℕ → ℕ → Bool
 remains rest v = eqb (getD rest v 0) 1
@@ -103,12 +99,7 @@ pub remaining-up : (n : ℕ) (rest : List ℕ) → Ascending (remaining n rest)
 unfolding remaining
 remaining-up n rest = ascending-keep (remains rest) (vertices n) (upTo-ascending n 0)
 
--- A table of zeros has bits,
-pub no-bits : Bits (replicate (side * side) 0)
-unfolding Bits
-no-bits j = omega (arith, at-zeros (side * side) j)
-
--- and links nothing.
+-- A table of zeros links nothing.
 pub none-linked : linksIn (replicate (side * side) 0) ≡ noLinks
 unfolding linksIn
 none-linked = fun-ext (λ u. fun-ext (λ v. rw (at-zeros (side * side) (side * u + v)) (and-false (ltb v side))))

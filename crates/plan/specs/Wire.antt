@@ -9,7 +9,7 @@ use borrow.Author.Tests.{eq-eqb, ne-eqb, ltb-true, ltb-false}
 use lib.Dec.{eqb, ltb}
 use lib.ListN.{length, getD, set, drop, length-set}
 use lib.Seq.{getD-set-same, getD-set-other, drop-cons, drop-length}
-use Rattle.laws.specs.Places.{set-below}
+use Rattle.laws.specs.Bits.{Bits, bits-set}
 use Rattle.laws.specs.Tests.{byTest, bySame, byChoice}
 use Rattle.links.specs.Switches.{pair, link, joinsAt, linksFrom, joinsFrom}
 use Rattle.network.specs.Network.{side, networkOf}
@@ -17,7 +17,7 @@ use Rattle.network.specs.Layout.{Layout, SwitchRead}
 use Rattle.network.specs.Lists.{switches-length, switch-at}
 use Rattle.network.specs.declared.Sections.{Sections}
 use Rattle.network.specs.declared.Switch.{Switch}
-use Rattle.plan.specs.Matrix.{linksIn, Bits, linked-is, is-linked, not-linked, beyond-column}
+use Rattle.plan.specs.Matrix.{linksIn, linked-is, is-linked, not-linked, beyond-column}
 
 -- One byte set.
 module _ (links : List ℕ) (long : length links ≡ side * side) (a b : ℕ) (ha : a < side) (hb : b < side) where
@@ -41,12 +41,12 @@ connected w links =
     cond (eqb (w .first) (w .second)) links (set (set links (side * w .first + w .second) 1) (side * w .second + w .first) 1)
 
 pub connected-bits : (w : Switch) (links : List ℕ) → Bits links → Bits (connected w links)
-unfolding connected Bits
+unfolding connected
 connected-bits w links b =
     byChoice Bits (eqb (w .first) (w .second)) _ _
     (λ t. b)
-    (λ t. set-below (set links (side * w .first + w .second) 1) (side * w .second + w .first) 1 2 (omega arith)
-    (set-below links (side * w .first + w .second) 1 2 (omega arith) b))
+    (λ t. bits-set (set links (side * w .first + w .second) 1) (side * w .second + w .first) 1 (omega arith)
+    (bits-set links (side * w .first + w .second) 1 (omega arith) b))
 
 -- A switch has been linked.
 pub record Connects (w : Switch) (links exit : List ℕ) (r : ℕ) : Type 0 where

@@ -2,10 +2,11 @@
 ghost use mathlib.Core.Path.{_≡_};
 ghost use Prim.Native.Nat.{_+_, _*_, _<_, _≤_};
 ghost use lib.ListN.{length};
+ghost use Rattle.laws.specs.Bits.{Bits};
 ghost use Rattle.links.specs.Links.{gone};
 ghost use Rattle.network.specs.Network.{side, edition, networkOf};
 ghost use Rattle.network.specs.Layout.{Layout, Within};
-ghost use Rattle.plan.specs.Matrix.{linksIn, Bits, remaining};
+ghost use Rattle.plan.specs.Matrix.{linksIn, remaining};
 ghost use Rattle.plan.specs.Degree.{nearBy, degreeIn};
 ghost use Rattle.plan.specs.Work.{labelAsked, neighbourAsked, pivotAsked, neighbourMost, pivotMost};
 ghost use Rattle.plan.specs.Scan.{turn, Takes};

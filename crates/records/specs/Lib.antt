@@ -4,3 +4,4 @@ pub mod Laws
 pub mod Found
 pub mod Rules
 pub mod Grown
+pub mod Unique

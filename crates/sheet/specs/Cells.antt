@@ -1,13 +1,13 @@
 -- The cells of a sheet as the code holds them: an array with a start for each vertex, and then a row of labels for each.
-use mathlib.Core.Path.{_≡_, refl, sym, fun-ext}
+use mathlib.Core.Path.{_≡_, refl, sym, ap, _∙_, fun-ext}
 use mathlib.Core.Bool.{and-false, cond}
 use mathlib.Core.List.{List}
-use Prim.Native.Nat.{ℕ, _+_, _*_, _<_}
+use Prim.Native.Nat.{ℕ, _+_, _*_, _-_, _/_, _%_, _<_}
 use native.Mathlib.Omega.{arith}
 use borrow.Author.Tests.{lt-ltb, ltb-true, ltb-false, eq-eqb, ne-eqb}
 use lib.Dec.{ltb}
 use lib.ListN.{length, getD, set}
-use lib.Seq.{getD-set-same, getD-set-other}
+use lib.Seq.{getD-set-same, getD-set-other, ext-getD}
 use Rattle.laws.specs.Tests.{byTest, bySame}
 use Rattle.network.specs.Network.{side}
 use Rattle.sheet.specs.declared.Cell.{Cell}
@@ -70,3 +70,18 @@ module _ (cells : List ℕ) (long : length cells ≡ cellCount) (r : ℕ) where
   pub cell-set : (c : Cell) → Inside c → cellsIn (set cells (placeOf c) r) ≡ setCell c r (cellsIn cells)
   cell-set (Start v) h = fun-ext (start-set v h)
   cell-set (Label u v) h = fun-ext (label-set u v (h .0) (h .1))
+
+-- What each cell holds determines the array.
+module _ (x y : List ℕ) (e : cellsIn x ≡ cellsIn y) where
+  same-place : (c : Cell) → Inside c → getD x (placeOf c) 0 ≡ getD y (placeOf c) 0
+  same-place c i = cell-at x c i ∙ ap (λ (f : Cell → ℕ). f c) e ∙ sym (cell-at y c i)
+
+  pub cells-unique : length x ≡ cellCount → length y ≡ cellCount → x ≡ y
+  cells-unique l m =
+      ext-getD 0 x y (l ∙ sym m) (λ j h. byTest (ltb j side)
+      (λ t. same-place (Start j) (ltb-true j side t))
+      (λ t. let o = ltb-false j side t in
+      let u = (j - side) / side in
+      let v = (j - side) % side in
+      let place : side + side * u + v ≡ j = omega arith in
+      rw place at (same-place (Label u v) (omega arith, omega arith))))

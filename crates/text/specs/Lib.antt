@@ -2,3 +2,4 @@ pub mod Texts
 pub mod Puts
 pub mod Decimals
 pub mod Putting
+pub mod Unique

@@ -9,8 +9,9 @@ use lib.Dec.{eqb}
 use lib.ListN.{length, getD, set, take, replicate, length-set}
 use lib.Seq.{getD-set-same, getD-set-other, take-length, length-take-le}
 use Rattle.laws.specs.Places.{at-zeros}
-use Rattle.form.specs.Numbers.{bit-back}
+use Rattle.laws.specs.Bits.{zero-bits, bits-set}
 use Rattle.laws.specs.Tests.{bySame}
+use Rattle.form.specs.Numbers.{bitOf, bit-back, bit-below}
 use Rattle.form.specs.References.{constantTrue, variable, formula}
 use Rattle.form.specs.declared.Record.{Record}
 use Rattle.formula.specs.Worth.{valueAt, operate, evaluate, leaves, worth}
@@ -21,20 +22,22 @@ use Rattle.network.specs.Lists.{givens-length, given-at}
 use Rattle.network.specs.Network.{edition, networkOf}
 use Rattle.values.specs.Values.{valueIn, places, Holds, gateBit}
 
--- A byte written at the first place that is not known is one value more.
+-- A bit written at the first place that is not known is one value more.
 holds-next :
-    (known : List Bool) (values : List ℕ) (at x : ℕ) →
+    (known : List Bool) (b : Bool) (values : List ℕ) (at x : ℕ) →
     at ≡ length known →
     at < places →
+    x ≡ bitOf b →
     Holds (valueAt known) values →
-    Holds (valueAt (known ++ (eqb x 1 ∷ []))) (set values at x)
+    Holds (valueAt (known ++ (b ∷ []))) (set values at x)
 unfolding valueIn
-holds-next known values at x e h holds =
+holds-next known b values at x e h q holds =
     record {
       is = fun-ext (λ r. bySame r at
-          (λ s. rw (s, getD-set-same values at x 0 (omega (arith, holds .long)), e, value-next known (eqb x 1)))
-          (λ d. rw (getD-set-other values at r x 0 d, value-other known (eqb x 1) r (λ s. d (s ∙ sym e)))
+          (λ s. rw (s, getD-set-same values at x 0 (omega (arith, holds .long)), q, bit-back b, e, value-next known b))
+          (λ d. rw (getD-set-other values at r x 0 d, value-other known b r (λ s. d (s ∙ sym e)))
           (ap (λ (f : ℕ → Bool). f r) (holds .is))));
+      bits = bits-set values at x (rw q (bit-below b)) (holds .bits);
       long = length-set values at x ∙ holds .long;
     }
 
@@ -55,7 +58,14 @@ constants (suc (suc r)) =
 module _ (setting : List ℕ) where
   pub filling-none : (values : List ℕ) → values ≡ replicate places 0 → Filling setting (set values constantTrue 1) 0
   filling-none values e =
-      record { within = omega arith; holds = record { is = rw e (fun-ext constants); long = rw e } }
+      record {
+        within = omega arith;
+        holds = record {
+          is = rw e (fun-ext constants);
+          bits = rw e (bits-set (replicate places 0) constantTrue 1 (omega arith) (zero-bits places));
+          long = rw e;
+        };
+      }
 
   module _ (values : List ℕ) (k : ℕ) (inv : Filling setting values k) where
     pub filling-more :
@@ -63,14 +73,16 @@ module _ (setting : List ℕ) where
         length setting ≤ edition .variables →
         (at : ℕ) →
         at ≡ variable k →
-        Filling setting (set values at (getD setting k 0)) (k + 1)
-    filling-more h l at e =
+        (x : ℕ) →
+        x ≡ bitOf (eqb (getD setting k 0) 1) →
+        Filling setting (set values at x) (k + 1)
+    filling-more h l at e x f =
         let n : length (take k setting) ≡ k = length-take-le k setting (inv .within) in
         record {
           within = omega arith;
           holds = rw (add-one, leaves-next setting k h)
-              (holds-next (leaves (take k setting)) values at (getD setting k 0)
-              (omega (arith, leaves-length (take k setting))) (omega arith) (inv .holds));
+              (holds-next (leaves (take k setting)) (eqb (getD setting k 0) 1) values at x
+              (omega (arith, leaves-length (take k setting))) (omega arith) f (inv .holds));
         }
 
     pub filling-all : length setting ≤ k → Holds (valueAt (leaves setting)) values
@@ -100,14 +112,13 @@ module _ (s : List ℕ) (parts : Sections) (layout : Layout s parts) (within : W
         let gs = networkOf s .givens in
         let known = evaluate (leaves setting) (take k gs) in
         let n = givens-length layout in
-        let b : eqb x 1 ≡ operate (g .kind) (valueIn values (g .first)) (valueIn values (g .second)) = rw e (bit-back _) in
         let q : getD gs k g ≡ g = given-at layout k g h ∙ sym (read .is) in
         let l : length (take k gs) ≡ k = length-take-le k gs (inv .within) in
-        let more = holds-next known values (formula (parts .variables) k) x
-        (omega (arith, evaluate-length (leaves setting) (take k gs), leaves-length setting)) (omega arith) (inv .holds) in
+        let more = holds-next known (operate (g .kind) (valueIn values (g .first)) (valueIn values (g .second))) values (formula (parts .variables) k) x
+        (omega (arith, evaluate-length (leaves setting) (take k gs), leaves-length setting)) (omega arith) e (inv .holds) in
         record {
           within = omega arith;
-          holds = rw (add-one, evaluate-next (leaves setting) gs k g (omega arith), q) (rw (b, inv .holds .is) at more);
+          holds = rw (add-one, evaluate-next (leaves setting) gs k g (omega arith), q) (rw (inv .holds .is) at more);
         }
 
     pub running-all : parts .givens ≤ k → Holds (worth setting (networkOf s .givens)) values

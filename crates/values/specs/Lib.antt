@@ -1,2 +1,3 @@
 pub mod Values
 pub mod Filling
+pub mod Unique

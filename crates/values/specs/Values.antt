@@ -7,6 +7,7 @@ use native.Mathlib.Omega.{arith}
 use borrow.Author.Tests.{eq-eqb, ne-eqb}
 use lib.Dec.{eqb}
 use lib.ListN.{length, getD}
+use Rattle.laws.specs.Bits.{Bits}
 use Rattle.form.specs.Numbers.{bitOf}
 use Rattle.form.specs.References.{kindOr, kindNot, formula}
 use Rattle.form.specs.declared.Record.{Record}
@@ -24,9 +25,10 @@ valueIn values = λ r. eqb (getD values r 0) 1
 abbrev pub places : ℕ
 places = formula (edition .variables) (edition .givens)
 
--- The array holds these values.
+-- The array holds these values, as bits.
 pub record Holds (value : ℕ → Bool) (values : List ℕ) : Type 0 where
   pub is : valueIn values ≡ value
+  pub bits : Bits values
   pub long : length values ≡ places
 
 -- The byte of a given formula, from the values of its arguments.

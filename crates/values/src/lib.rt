@@ -59,7 +59,7 @@ fn leaves(setting: &[u8], values: &mut [u8; PLACES])
     while k < setting.len() {
         let variable = Reference::of(k);
         let place = variable.number as usize;
-        values[place] = setting[k];
+        values[place] = form::bit(setting[k]);
         k += 1;
     }
 }

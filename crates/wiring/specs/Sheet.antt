@@ -4,6 +4,7 @@ use mathlib.Core.List.{List}
 use Prim.Native.Nat.{ℕ, _+_, _*_}
 use native.Mathlib.Omega.{arith}
 use lib.ListN.{length}
+use Rattle.laws.specs.Bits.{Bits}
 use Rattle.formula.specs.Givens.{Passed}
 use Rattle.network.specs.Network.{edition, side, networkOf}
 use Rattle.network.specs.Layout.{Sound}
@@ -14,7 +15,7 @@ use Rattle.givens.specs.Passed.{passedOf, PassedIn}
 use Rattle.links.specs.Switches.{noLinks, linksOf, joinsOf}
 use Rattle.sheet.specs.Perform.{Sheet}
 use Rattle.operations.specs.Runs.{sheetIn, Held, Ready}
-use Rattle.plan.specs.Matrix.{linksIn, Bits}
+use Rattle.plan.specs.Matrix.{linksIn}
 use Rattle.analysis.specs.Wiring.{passed, translated, starting, wireAll, wired}
 use Rattle.wiring.specs.Switches.{Translating, Wires}
 use Rattle.wiring.specs.Starts.{Started, started-held, started-cells}

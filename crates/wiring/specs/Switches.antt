@@ -6,6 +6,7 @@ use native.Mathlib.Omega.{arith}
 use native.Mathlib.Numerals.{add-one}
 use lib.ListN.{length, getD, drop, replicate, length-replicate}
 use lib.Seq.{drop-cons, drop-length}
+use Rattle.laws.specs.Bits.{Bits, zero-bits}
 use Rattle.form.specs.References.{formula}
 use Rattle.formula.specs.Givens.{translate}
 use Rattle.network.specs.Network.{edition, side, networkOf}
@@ -19,7 +20,7 @@ use Rattle.links.specs.Switches.{link, joinsAt, linksFrom, joinsFrom, noLinks, 
 use Rattle.links.specs.Symmetry.{Symmetric, symmetric-none, symmetric-link}
 use Rattle.sheet.specs.Perform.{Sheet}
 use Rattle.operations.specs.Runs.{sheetIn, Ready, Runs, ready-less, ready-after}
-use Rattle.plan.specs.Matrix.{linksIn, Bits, none-linked, no-bits}
+use Rattle.plan.specs.Matrix.{linksIn, none-linked}
 use Rattle.plan.specs.Wire.{Connects, connected-bits}
 use Rattle.analysis.specs.Wiring.{translated, labelled, translateSwitch, wire, wireAll}
 use Rattle.wiring.specs.Labels.{Labelling}
@@ -130,7 +131,7 @@ module _ (file : List ℕ) (parts : Sections) (base : ℕ) (references c₀ o₀
         ready = rw g r;
         translates = t;
         symmetric = rw g symmetric-none;
-        bits = rw e no-bits;
+        bits = rw e (zero-bits (side * side));
         long = rw e (length-replicate {A = ℕ} (side * side) 0);
       }
 

@@ -3,3 +3,4 @@ pub mod Lengths
 pub mod Entering
 pub mod Steps
 pub mod Whole
+pub mod Unique
