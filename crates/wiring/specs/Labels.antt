@@ -1,6 +1,6 @@
 -- The labels of a switch: set where they are the first of their pair, and else joined.
 use mathlib.Core.Path.{_≡_, refl, ap, _∙_}
-use mathlib.Core.Bool.{Bool, true, false, cond}
+use mathlib.Core.Bool.{cond}
 use mathlib.Core.List.{List}
 use Prim.Native.Nat.{ℕ, _+_, _*_, _<_}
 use native.Mathlib.Omega.{arith}
@@ -8,7 +8,6 @@ use borrow.Author.Tests.{eq-eqb, ne-eqb}
 use lib.ListN.{length, getD, set}
 use Rattle.laws.specs.Tests.{byTest}
 use Rattle.form.specs.References.{kindOr, formula}
-use Rattle.form.specs.declared.Record.{Record}
 use Rattle.formula.specs.Make.{Outcome, old, make}
 use Rattle.formula.specs.MakeLaws.{Keeps}
 use Rattle.network.specs.Network.{side}
