@@ -16,7 +16,7 @@ const ALL_SETTINGS: usize = 4;
 pub type Difference = String;
 
 /// What became of a call: the bytes written, or the refusal.
-type Outcome = Result<Vec<u8>, Refusal>;
+pub type Outcome = Result<Vec<u8>, Refusal>;
 
 /// Compares all that is asked of one file, and counts it. The first difference ends it.
 pub fn check(case: &Case, tally: &mut Tally) -> Result<(), Difference> {
@@ -56,7 +56,7 @@ fn foreseen(foreseen: Foreseen, outcome: &Outcome) -> Result<(), Difference> {
 }
 
 /// The library's refusal as the reference's type.
-fn of_library(refusal: jorulbani::Refusal) -> Refusal {
+pub fn of_library(refusal: jorulbani::Refusal) -> Refusal {
     let (number, place) = (refusal.number(), refusal.place());
     Refusal { number, place }
 }
@@ -68,8 +68,25 @@ fn length_of(outcome: &Outcome) -> Result<usize, Refusal> {
 fn in_words(outcome: &Result<usize, Refusal>) -> String {
     match outcome {
         Ok(length) => format!("accepted, {length} bytes"),
-        Err(refusal) => format!("refused {} at {}", refusal.number, refusal.place),
+        Err(refusal) => refused(*refusal),
     }
+}
+
+/// A refusal in words.
+pub fn refused(refusal: Refusal) -> String {
+    format!("refused {} at {}", refusal.number, refusal.place)
+}
+
+/// All settings of so many variables.
+pub fn all_settings(variables: usize) -> Vec<Vec<u8>> {
+    let bit = |setting: usize, variable: usize| (setting >> variable & 1) as u8;
+    (0..1 << variables)
+        .map(|setting| {
+            (0..variables)
+                .map(|variable| bit(setting, variable))
+                .collect()
+        })
+        .collect()
 }
 
 /// The checks of one file.
@@ -132,14 +149,7 @@ impl Checks<'_> {
             let mut random = || (0..variables).map(|_| self.seeded.byte() & 1).collect();
             return vec![vec![0; variables], vec![1; variables], random(), random()];
         }
-        let bit = |setting: usize, variable: usize| (setting >> variable & 1) as u8;
-        (0..1 << variables)
-            .map(|setting| {
-                (0..variables)
-                    .map(|variable| bit(setting, variable))
-                    .collect()
-            })
-            .collect()
+        all_settings(variables)
     }
 
     /// A setting and a room of which one, two or three things are wrong: the length, bytes, the room.
@@ -243,13 +253,14 @@ impl Checks<'_> {
 
     /// The listing's text.
     fn list(&mut self) -> Result<(), Difference> {
-        same_text(&jorulbani::list(self.file), &reference::listing(self.file))?;
+        same_text(&jorulbani::list(self.file), &reference::listing(self.file))
+            .map_err(|why| format!("the listing: {why}"))?;
         self.tally.comparisons += 1;
         Ok(())
     }
 }
 
-/// Whether a listing is what it should be.
+/// Whether a text is what it should be.
 pub fn same_text(text: &str, expected: &str) -> Result<(), Difference> {
     if text == expected {
         return Ok(());
@@ -261,7 +272,5 @@ pub fn same_text(text: &str, expected: &str) -> Result<(), Difference> {
     let differs = |&number: &usize| line(text, number) != line(expected, number);
     let number = (1..).find(differs).unwrap_or(1);
     let (is, should) = (line(text, number), line(expected, number));
-    Err(format!(
-        "line {number} of the listing is {is}, not {should}"
-    ))
+    Err(format!("line {number} is {is}, not {should}"))
 }

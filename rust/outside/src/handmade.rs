@@ -1,6 +1,7 @@
 //! Wiring files made by hand for the stored vectors, each with a name that says what it shows.
 //!
-//! Of the refusals, 1 to 7 are here: no file of this edition meets 8, and 9 to 12 are not a file's.
+//! Of the refusals, 1 to 7 are here: no file of this edition meets 8, and 9 to 12 are not a file's: see [`crate::rooms`] and
+//! [`crate::settings`].
 
 use crate::dressing::wired;
 use crate::networks::{Given, Network, Switch, AND, MOST_VARIABLES, MOST_VERTICES, NOT, OR};
@@ -136,6 +137,22 @@ parallel: two pairs in turns                       | 7 9 11 | | 1 0 0 | 0 1 2 2,
 parallel: all labels false                         | | | 0 0 | 0 1 0 0, 1 0 0 0, 0 1 0 0
 ";
 
+/// Networks with something of everything, a row for each as above: coils above 255, a not, another label each way and 0 one way, a second
+/// switch between two vertices, a degree above 1. In none are any two of the counts and figures of its result the same, but for vertices and
+/// order, or is any of them 0.
+const UNEVEN: &str = "
+uneven: triangle with a tail                       | 300 513 1027 5000 65535 | not 2 | 1 0 7 0 | 0 1 2 3, 1 2 4 0, 2 0 5 7, 2 3 7 6, 1 0 6 4
+uneven: ring with a chord and a tail               | 256 511 512 4660 | and 2 3, not 6, or 7 4, not 3, and 9 5, or 10 2 | 0 1 0 3 0 | 0 1 2 3, 1 2 4 5, 2 3 0 8, 3 0 7 11, 0 2 5 0, 4 3 6 1, 1 0 8 4
+uneven: all four linked, three pairs of them twice | 2 258 772 1286 65534 | or 2 6, not 7 | 1 0 0 0 | 0 1 2 3, 0 2 4 5, 0 3 6 7, 1 2 0 8, 1 3 8 0, 2 3 3 2, 1 0 5 6, 2 0 7 4, 3 2 8 0
+uneven: star with two leaves linked                | 255 256 | not 2, not 3, and 4 3, or 4 5, and 7 2 | 0 1 0 2 0 0 | 0 1 2 4, 0 2 3 0, 0 3 6 7, 0 4 5 2, 0 5 8 3, 1 0 3 5, 3 0 0 6, 1 2 7 0
+uneven: one way round a ring of five, and back     | 3 700 | not 3 | 2 0 0 1 0 | 0 1 2 0, 1 2 3 0, 2 3 4 0, 3 4 1 0, 4 0 3 0, 0 1 0 3, 3 2 4 0
+uneven: ladder, its sides one way                  | 257 514 771 1028 1285 1542 1799 | or 3 8, not 9 | 1 0 0 10 0 0 | 0 2 2 0, 2 4 3 0, 1 3 0 4, 3 5 0 5, 0 1 6 7, 2 3 8 10, 4 5 9 2, 1 0 5 4, 5 4 10 9
+uneven: coils 0 and 40000                          | 0 40000 | not 3 | 2 0 0 0 3 | 0 1 4 2, 1 2 2 3, 2 0 3 0, 2 3 3 4, 3 4 4 0, 1 0 0 3, 3 2 2 0
+uneven: two triangles, one of them dead            | 9 265 521 777 | not 5 | 3 0 0 0 0 0 0 | 0 1 2 6, 1 2 3 0, 2 0 4 5, 3 4 5 4, 4 5 0 3, 5 3 2 2, 2 1 6 3
+uneven: joins that make no record                  | 600 601 602 603 604 | not 6 | 1 0 2 0 | 0 1 2 3, 1 2 4 0, 2 0 5 6, 2 3 7 5, 0 1 2 3, 2 1 0 4, 1 0 0 1
+uneven: given formulas, few of which make a record | 1 257 300 400 500 | or 2 2, and 3 1, not 4, not 9, or 5 0, and 9 4, and 3 2 | 13 0 0 0 | 0 1 7 9, 1 2 10 0, 2 0 13 4, 3 0 6 11, 1 0 12 5
+";
+
 /// Bare links, with labels and starts that are false, a row for each: name | vertices | links.
 const BARE: &str = "
 K1 and F2: no vertices, eight zero bytes           | 0 |
@@ -269,6 +286,36 @@ pub fn files() -> Vec<Named> {
         .chain(cuts())
         .chain(planted())
         .collect()
+}
+
+/// Networks with something of everything, among them one whose work and references are above 255.
+pub fn uneven() -> Vec<Named> {
+    let large = ("large: all eight linked".to_string(), all_eight().encode());
+    let rows = rows(UNEVEN, |row| network(row).encode());
+    rows.chain([large]).collect()
+}
+
+/// For each of refusals 1 to 7, the first files that are called so.
+pub fn faulty(of_each: usize) -> Vec<Named> {
+    let files = files();
+    let called = |number: u32| {
+        let prefix = format!("refusal {number}: ");
+        let called = move |(name, _): &&Named| name.starts_with(&prefix);
+        files.iter().filter(called).take(of_each).cloned()
+    };
+    (1..=7).flat_map(called).collect()
+}
+
+/// All eight linked, with two coils for each pair, and one pair linked twice.
+fn all_eight() -> Network {
+    let mut network = wired(&shapes::all_linked(8));
+    network.coils = (250..306).collect();
+    network.givens = vec![given("not 2")];
+    for (index, switch) in (0..).zip(&mut network.switches) {
+        (switch.there, switch.back) = (2 + 2 * index, 3 + 2 * index);
+    }
+    network.switches.push(switch("7 6 58 0"));
+    network
 }
 
 /// Files at a limit, and one above it.
@@ -440,7 +487,53 @@ fn bytes(row: &str) -> Vec<u8> {
 
 #[cfg(test)]
 mod tests {
-    use super::files;
+    use super::*;
+    use std::collections::HashSet;
+
+    /// The counts of variables, records and vertices, 3, and the figures, of a network's result.
+    fn counts(network: &Network) -> [usize; 7] {
+        let listing = reference::listing(&network.encode());
+        let said = |word: &str| {
+            let mut words = listing.split_whitespace();
+            words.find(|&other| other == word);
+            words.next().unwrap().parse().unwrap()
+        };
+        let (variables, givens) = (network.coils.len(), network.givens.len());
+        let vertices = said("vertices");
+        [
+            variables,
+            said("nodes"),
+            vertices,
+            3,
+            givens,
+            said("joins"),
+            said("work"),
+        ]
+    }
+
+    /// What is said of the uneven networks.
+    #[test]
+    fn uneven_networks_have_something_of_everything() {
+        let rows = UNEVEN.lines().filter(|row| !row.is_empty());
+        let networks = rows.map(|row| network(row.split_once('|').unwrap().1));
+        for network in networks.chain([all_eight()]) {
+            let counts = counts(&network);
+            let different: HashSet<usize> = counts.into_iter().chain([0]).collect();
+            assert_eq!(different.len(), 8, "{counts:?} of {network:?}");
+            assert!(network.coils.iter().any(|&coil| coil > 255));
+            assert!(network.givens.iter().any(|given| given.kind == NOT));
+            let mut switches = network.switches.iter();
+            assert!(switches.any(|switch| (switch.there == 0) != (switch.back == 0)));
+            let listing = reference::listing(&network.encode());
+            assert!(listing.contains(" degree 2\n"), "{listing}");
+        }
+    }
+
+    /// There are enough files for each number.
+    #[test]
+    fn every_fault_of_a_file_is_there() {
+        assert_eq!(faulty(4).len(), 7 * 4);
+    }
 
     /// A file is refused where its name says so, and with that number.
     #[test]

@@ -2,6 +2,7 @@
 //!
 //! No expected value comes from the library: it comes from the reference, or from the generator that planted a fault.
 
+pub mod calls;
 pub mod cards;
 pub mod cases;
 pub mod compare;
@@ -11,9 +12,12 @@ pub mod handmade;
 pub mod lent;
 pub mod networks;
 pub mod program;
+pub mod rooms;
 pub mod run;
 pub mod seeded;
+pub mod settings;
 pub mod shapes;
+pub mod short;
 pub mod sound;
 pub mod tally;
 pub mod timing;

@@ -1,16 +1,16 @@
-//! The stored vectors: the listing program, the library and the reference against stored listings.
+//! The stored vectors: the proved code and the reference against stored texts.
 
-use outside::compare::same_text;
-use outside::vectors::{self, Vector, STORED};
-use outside::{program, root};
-use std::panic::catch_unwind;
+use outside::calls::{Call, CALLS};
+use std::env;
 use std::process::ExitCode;
-use std::{env, fs};
 
 const HELP: &str = "\
-vectors          compares the listing program, the library and the reference with the stored listings, vectors/listings.txt
-vectors write    prints that file anew, with the reference alone
-The status is 0 where every listing is as stored, 1 on a difference, and 2 where the stored file is damaged and for wrong usage.
+vectors               compares the library, the reference and, for listings, the listing program with all stored texts
+vectors reference     compares the reference alone with them, and counts for each file how many texts differ
+vectors write NAME    prints a file anew, with the reference alone: listings, results or direct
+vectors write         prints all of them, one behind the other
+The texts are in vectors/NAME.txt.
+The status is 0 where every text is as stored, 1 on a difference, and 2 where a stored file is damaged and for wrong usage.
 ";
 
 /// What is said on standard error, and the exit status.
@@ -27,6 +27,11 @@ impl Failure {
     fn unusable(message: String) -> Failure {
         Failure { message, status: 2 }
     }
+
+    /// The stored text of a kind of calls cannot be used.
+    fn damaged(call: &Call) -> impl Fn(String) -> Failure + '_ {
+        |why| Failure::unusable(format!("{}: {why}", call.path()))
+    }
 }
 
 fn main() -> ExitCode {
@@ -34,7 +39,11 @@ fn main() -> ExitCode {
     let words: Vec<&str> = words.iter().map(String::as_str).collect();
     let outcome = match words[..] {
         [] => check(),
-        ["write"] => write(),
+        ["reference"] => reference(),
+        ["write"] => write(|_| true),
+        ["write", name] if CALLS.iter().any(|call| call.name == name) => {
+            write(|call| call.name == name)
+        }
         ["--help"] => Ok(HELP.to_string()),
         _ => Err(Failure::unusable(format!(
             "cannot use '{}'; see --help",
@@ -53,53 +62,48 @@ fn main() -> ExitCode {
     }
 }
 
-/// The text to store, once it has been read back.
-fn write() -> Result<String, Failure> {
-    let text = vectors::text(&vectors::made());
-    vectors::read(&text).map_err(Failure::unusable)?;
-    Ok(text)
+/// The texts to store, of the chosen kinds of calls.
+fn write(chosen: impl Fn(&Call) -> bool) -> Result<String, Failure> {
+    let chosen = CALLS.iter().filter(|call| chosen(call));
+    let texts = chosen.map(|call| call.made().map_err(Failure::damaged(call)));
+    texts.collect()
 }
 
 /// Compares all that is stored. Gives what is said where nothing differs.
 fn check() -> Result<String, Failure> {
-    let unusable = |why: String| Failure::unusable(format!("{STORED}: {why}"));
-    let text = fs::read_to_string(root().join(STORED)).map_err(|why| unusable(why.to_string()))?;
-    let vectors = vectors::read(&text).map_err(unusable)?;
-    vectors::same_files(&text, &write()?).map_err(unusable)?;
     jorulbani::ready().map_err(|why| Failure::unusable(why.to_string()))?;
+    CALLS.iter().map(check_call).collect()
+}
+
+/// Compares all that is stored for one kind of calls. The first difference ends it.
+fn check_call(call: &Call) -> Result<String, Failure> {
+    let (text, vectors) = call.stored().map_err(Failure::damaged(call))?;
+    let path = call.path();
     for vector in &vectors {
-        compare(vector).map_err(Failure::differs)?;
+        let differs = |why| Failure::differs(format!("{path}: {why}"));
+        call.compare(vector).map_err(differs)?;
     }
+    call.held(&text).map_err(Failure::damaged(call))?;
+    let (count, who) = (vectors.len(), call.who());
     Ok(format!(
-        "vectors: {} listings, each as stored from the program, the library and the reference\n",
-        vectors.len()
+        "{path}: {count} texts, each as stored from {who}\n"
     ))
 }
 
-/// Compares the three with one stored listing.
-fn compare(vector: &Vector) -> Result<(), String> {
-    let Vector {
-        name,
-        file,
-        listing,
-    } = vector;
-    let library = catch_unwind(|| jorulbani::list(file))
-        .map_err(|_| "the call did not come back: see the message above".to_string());
-    let listings = [
-        ("the program", program::listed(file)),
-        ("the library", library),
-        ("the reference", Ok(reference::listing(file))),
-    ];
-    let differences: Vec<String> = listings
-        .into_iter()
-        .filter_map(|(who, came)| {
-            let difference = came.and_then(|came| same_text(&came, listing)).err()?;
-            Some(format!("{who}: {difference}"))
-        })
-        .collect();
-    if differences.is_empty() {
-        return Ok(());
+/// Compares the reference with all that is stored, and says for each kind of calls how many texts differ.
+fn reference() -> Result<String, Failure> {
+    let mut said = Vec::new();
+    let mut all = 0;
+    for call in &CALLS {
+        let (_, vectors) = call.stored().map_err(Failure::damaged(call))?;
+        let differs = |vector: &&_| call.compare_reference(vector).is_err();
+        let different = vectors.iter().filter(differs).count();
+        said.push(format!("{} {different} of {}", call.name, vectors.len()));
+        all += different;
     }
-    let differences = differences.join("\n");
-    Err(format!("'{name}' is not listed as stored\n{differences}"))
+    let said = format!("texts that differ: {}", said.join(", "));
+    if all > 0 {
+        return Err(Failure::differs(said));
+    }
+    Ok(format!("vectors: {said}\n"))
 }
