@@ -48,7 +48,7 @@ const LIST: Call = Call {
 # A vector is 'vector' and what it shows; then 'file' and the file's bytes in hexadecimal, two together where they are a number, in as
 # many lines as it takes; then each line of the listing, after '| '. A blank line stands between two vectors.
 # No text here comes from the proved program: each listing is that of rust/reference, which was written from the outline alone.
-# 'rust/target/release/vectors write' prints this file, and 'rust/target/release/vectors' compares with it.
+# 'rust/target/release/vectors write listings' prints this file, and 'rust/target/release/vectors' compares with it.
 # Refusals 8 to 12 are not here: no file of this edition meets 8, and 9 to 12 are not a file's: results.txt and direct.txt have those.
 ",
         fields: &[FILE],
