@@ -7,7 +7,7 @@
  *   reply    answer, nanoseconds of all `times` calls together, bytes of stack that the library used (0 unless asked), then the
  *            bytes of out as the last call left them
  *
- * With stack 1 the calls are made on a thread of their own, whose stack is measured.
+ * A buffer of length 0 is lent as NULL. With stack 1 the calls are made on a thread of their own, whose stack is measured.
  *
  * Exit status: 0 the input ended after a whole request; 2 a request is malformed or too large, or could not be served; 3 the library
  * wrote where it must not.
@@ -146,17 +146,23 @@ static uint64_t nanoseconds(void)
     return (uint64_t)now.seconds * 1000000000 + (uint64_t)now.nanoseconds;
 }
 
+/* What C callers may lend where there is nothing to lend: NULL. */
+static uint8_t *pointer(struct lent lent)
+{
+    return lent.len == 0 ? 0 : lent.bytes;
+}
+
 static __attribute__((noinline)) uint64_t call(struct task *t)
 {
     /* above the frame pointer that was saved there and the return address, which count as the library's */
     t->standing = (const uint8_t *)__builtin_frame_address(0) + 16;
     switch (t->op) {
     case OP_ANALYSE:
-        return jorulbani_analyse(t->file.bytes, t->file.len, t->out.bytes, t->out.len);
+        return jorulbani_analyse(pointer(t->file), t->file.len, pointer(t->out), t->out.len);
     case OP_DIRECT:
-        return jorulbani_direct(t->file.bytes, t->file.len, t->setting.bytes, t->setting.len, t->out.bytes, t->out.len);
+        return jorulbani_direct(pointer(t->file), t->file.len, pointer(t->setting), t->setting.len, pointer(t->out), t->out.len);
     default:
-        return jorulbani_list(t->file.bytes, t->file.len, t->out.bytes, t->out.len);
+        return jorulbani_list(pointer(t->file), t->file.len, pointer(t->out), t->out.len);
     }
 }
 

@@ -9,7 +9,7 @@
  * has to be checked beforehand: every byte string is accepted, or refused with a number and a place. What is asked is only what C
  * itself asks:
  *
- *   - each pointer is not NULL, also where its length is 0, and as many bytes as its length says can be read there;
+ *   - as many bytes as a length says can be read at its pointer, which may be NULL where that length is 0;
  *   - at `out` they can be written too, and `out` overlaps neither `file` nor `setting`;
  *   - the calling thread has the stack that a call needs: see docs/BENCHMARKS.md.
  *
