@@ -17,9 +17,9 @@ use Rattle.direct.specs.Unique as answered
 use Rattle.elimination.specs.Plan.{workOf}
 use Rattle.form.specs.Refusals.{accepted, replyOf}
 use Rattle.form.specs.declared.Reply.{Reply}
-use Rattle.links.specs.Links.{Graph, Step, order}
+use Rattle.links.specs.Links.{Graph, Step, order, steps}
 use Rattle.links.specs.Lists.{vertices}
-use Rattle.links.specs.Switches.{linksOf}
+use Rattle.links.specs.Switches.{linksOf, joinsOf}
 use Rattle.meaning.specs.System.{systemOf}
 use Rattle.network.specs.Network.{edition, networkOf}
 use Rattle.paths.specs.Paths.{Reached}
@@ -48,6 +48,13 @@ module _ (s before after : List ℕ) (r : Reply) (call : analyse.Promise s befor
     abbrev g : Graph
     g = linksOf (networkOf s .switches)
 
+    -- The stored coils are as given, and there is a stored answer for each vertex.
+    pub coils-as-given : stored .variables ≡ networkOf s .variables
+    coils-as-given = analyse.told-answered call written is .truths .coils
+
+    pub answer-for-each : length (stored .answers) ≡ n
+    answer-for-each = analyse.told-answered call written is .truths .answers
+
     -- DEMAND 2. Under every setting of the coils, a vertex's stored formula, read off the stored records, is true exactly when some path, possibly of
     -- no contacts, leads to it from a vertex whose own starting formula is true, through contacts whose labels are true in the direction travelled.
     -- Ruled out: formula 0 everywhere, one answer for all files, no records, a path left out, a label taken the wrong way round.
@@ -59,6 +66,18 @@ module _ (s before after : List ℕ) (r : Reply) (call : analyse.Promise s befor
     pub formulas-solve : (setting : List ℕ) → length setting ≡ length (networkOf s .variables)
         → Solution (systemOf (networkOf s) setting) (vertices n) (truthIn stored setting)
     formulas-solve = analyse.told-answered call written is .truths .solution
+
+    -- The reported given formulas and joins are the file's.
+    pub givens-are-the-files : givensFigure stored ≡ length (networkOf s .givens)
+    givens-are-the-files = analyse.told-answered call written is .figures .givens
+
+    pub joins-are-the-files : joinsFigure stored ≡ joinsOf (networkOf s .switches)
+    joins-are-the-files = analyse.told-answered call written is .figures .joins
+
+    -- The reported pivots are rule M's on the bare links, in its order, each with the neighbours left at that moment. Ruled out: all eliminations in the
+    -- first step and pivots that are only named later.
+    pub pivots-are-rule-M : stored .order ≡ steps g (vertices n) (order n g)
+    pivots-are-rule-M = analyse.told-answered call written is .figures .pivots
 
     -- DEMAND 3. The reported work is the number of operations that figure 1 asks for on the bare links. Ruled out: an invented figure.
     pub work-is-asked : workFigure stored ≡ workOf n g
