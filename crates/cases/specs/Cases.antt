@@ -1,22 +1,20 @@
--- K1 to K9, F1 to F4 and example L, as one table under a single claim.
+-- K1 to K9, F1 to F4, example L and a triangle, as one table under a single claim. Files and results are literal bytes.
 use mathlib.Core.Path.{_≡_, refl, ap₂}
 use mathlib.Core.Bool.{Bool, true, false, _&&_, false≢true}
 use mathlib.Core.List.{List, [], _∷_, _++_, map, flatMap, List·Memᴰ, List·Memᴰ·head, List·Memᴰ·tail}
 use Prim.Native.Nat.{ℕ}
 use borrow.Author.Tests.{eqb-true}
 use lib.Dec.{eqb}
-use lib.ListN.{length, replicate}
+use lib.ListN.{replicate}
 use Rattle.analysis.specs.Analysis.{analysis}
-use Rattle.analysis.specs.Result.{stepEntry, resultIn, resultOf}
 use Rattle.elimination.specs.Plan.{plan, workOf}
-use Rattle.form.specs.Numbers.{bytesOf, bitOf}
-use Rattle.form.specs.References.{recordEntry}
+use Rattle.form.specs.Numbers.{bitOf}
 use Rattle.form.specs.Refusals.{Answer, refused, accepted}
 use Rattle.laws.specs.Tests.{both-true}
 use Rattle.links.specs.Lists.{upTo, vertices}
 use Rattle.links.specs.Links.{Graph, Step, order, steps}
 use Rattle.links.specs.Switches.{linksOf, joinsOf}
-use Rattle.network.specs.Network.{Network, edition, networkOf}
+use Rattle.network.specs.Network.{edition}
 use Rattle.list.specs.Listing.{listing}
 use Rattle.network.specs.declared.Switch.{Switch}
 use Rattle.sheet.specs.Asks.{work}
@@ -66,23 +64,57 @@ double = bare 0 1 ∷ bare 0 1 ∷ []
 abbrev pub degrees : ℕ → Graph → List ℕ
 degrees n g = map (λ (s : Step). s .degree) (steps g (vertices n) (order n g))
 
--- A refusal's number and place, or the number of bytes of a result.
-abbrev pub outcome : Answer (List ℕ) → List ℕ
-outcome (refused number place) = number ∷ place ∷ []
-outcome (accepted bytes) = length bytes ∷ []
+-- A refusal's number and place, or the bytes of a result.
+abbrev pub said : Answer (List ℕ) → List ℕ
+said (refused number place) = number ∷ place ∷ []
+said (accepted bytes) = bytes
 
--- Example L: coils 7 and 9; no given formulas; starts 1, 0, 0; switches (0,1,2,2) and (1,2,3,3).
+-- The truths of n vertices under a setting, read back from the bytes of a result.
+abbrev pub truthsIn : List ℕ → ℕ → List ℕ → List ℕ
+truthsIn result n setting = map (λ v. bitOf (truthIn (storedOf result) setting v)) (vertices n)
+
+-- Example L, section by section: coils 7 and 9; no given formulas; starts 1, 0, 0; switches (0,1,2,2) and (1,2,3,3).
 abbrev pub fileL : List ℕ
-fileL = bytesOf (2 ∷ 7 ∷ 9 ∷ 0 ∷ 3 ∷ 1 ∷ 0 ∷ 0 ∷ 2 ∷ 0 ∷ 1 ∷ 2 ∷ 2 ∷ 1 ∷ 2 ∷ 3 ∷ 3 ∷ [])
+fileL =
+    2 ∷ 0 ∷ 7 ∷ 0 ∷ 9 ∷ 0
+    ∷ 0 ∷ 0
+    ∷ 3 ∷ 0 ∷ 1 ∷ 0 ∷ 0 ∷ 0 ∷ 0 ∷ 0
+    ∷ 2 ∷ 0 ∷ 0 ∷ 0 ∷ 1 ∷ 0 ∷ 2 ∷ 0 ∷ 2 ∷ 0 ∷ 1 ∷ 0 ∷ 2 ∷ 0 ∷ 3 ∷ 0 ∷ 3 ∷ 0
+    ∷ []
 
-abbrev pub exampleL : Network
-exampleL = networkOf fileL
+-- Its result: coils; and 2 3, and 3 4, or 2 5, and 2 6; formulas 1, 6, 4; pivots 0, 1, 2 of degree 1, 1, 0; given formulas 0, joins 0, work 8.
+abbrev pub resultL : List ℕ
+resultL =
+    2 ∷ 0 ∷ 7 ∷ 0 ∷ 9 ∷ 0
+    ∷ 4 ∷ 0 ∷ 1 ∷ 0 ∷ 2 ∷ 0 ∷ 3 ∷ 0 ∷ 1 ∷ 0 ∷ 3 ∷ 0 ∷ 4 ∷ 0 ∷ 2 ∷ 0 ∷ 2 ∷ 0 ∷ 5 ∷ 0 ∷ 1 ∷ 0 ∷ 2 ∷ 0 ∷ 6 ∷ 0
+    ∷ 3 ∷ 0 ∷ 1 ∷ 0 ∷ 6 ∷ 0 ∷ 4 ∷ 0
+    ∷ 3 ∷ 0 ∷ 0 ∷ 0 ∷ 1 ∷ 0 ∷ 1 ∷ 0 ∷ 1 ∷ 0 ∷ 2 ∷ 0 ∷ 0 ∷ 0
+    ∷ 3 ∷ 0 ∷ 0 ∷ 0 ∷ 0 ∷ 0 ∷ 8 ∷ 0
+    ∷ []
 
--- The truths of its vertices under a setting, read back from the bytes of its result.
-abbrev pub truthsL : List ℕ → List ℕ
-truthsL setting = map (λ v. bitOf (truthIn (storedOf (resultOf exampleL)) setting v)) (vertices 3)
+-- Example T, a triangle: coils 7, 300 and 1000; given formula not 3; starts 1, 0, 0; switches (0,1,2,0), (1,2,4,2), (1,0,0,3) and (0,2,0,5).
+abbrev pub fileT : List ℕ
+fileT =
+    3 ∷ 0 ∷ 7 ∷ 0 ∷ 44 ∷ 1 ∷ 232 ∷ 3
+    ∷ 1 ∷ 0 ∷ 3 ∷ 0 ∷ 3 ∷ 0 ∷ 0 ∷ 0
+    ∷ 3 ∷ 0 ∷ 1 ∷ 0 ∷ 0 ∷ 0 ∷ 0 ∷ 0
+    ∷ 4 ∷ 0 ∷ 0 ∷ 0 ∷ 1 ∷ 0 ∷ 2 ∷ 0 ∷ 0 ∷ 0 ∷ 1 ∷ 0 ∷ 2 ∷ 0 ∷ 4 ∷ 0 ∷ 2 ∷ 0 ∷ 1 ∷ 0 ∷ 0 ∷ 0 ∷ 0 ∷ 0 ∷ 3 ∷ 0 ∷ 0 ∷ 0 ∷ 2 ∷ 0 ∷ 0 ∷ 0 ∷ 5 ∷ 0
+    ∷ []
 
--- Its listing, line by line.
+-- Its result, worked out by hand. The given formula becomes 5. The third switch joins the first: label(1,0) stays 0, label(0,1) becomes 6, or 2 3.
+-- Pivot 0 has the neighbours 1 and 2. start(1) is 6; over the pivot leads 7, and 5 6, from 2 to 1, so that label(2,1) becomes 8, or 2 7; nothing
+-- leads to 2. Pivot 1 has the neighbour 2: start(2) is 9, and 4 6. Vertex 2 is answered with 9; vertex 1 with 6 or (9 and 8), which are 10, and 8 9,
+-- and 11, or 6 10; vertex 0 with 1, for which 12, and 5 9, is asked. Work is 12 and 4.
+abbrev pub resultT : List ℕ
+resultT =
+    3 ∷ 0 ∷ 7 ∷ 0 ∷ 44 ∷ 1 ∷ 232 ∷ 3
+    ∷ 8 ∷ 0 ∷ 3 ∷ 0 ∷ 3 ∷ 0 ∷ 0 ∷ 0 ∷ 2 ∷ 0 ∷ 2 ∷ 0 ∷ 3 ∷ 0 ∷ 1 ∷ 0 ∷ 5 ∷ 0 ∷ 6 ∷ 0 ∷ 2 ∷ 0 ∷ 2 ∷ 0 ∷ 7 ∷ 0 ∷ 1 ∷ 0 ∷ 4 ∷ 0 ∷ 6 ∷ 0 ∷ 1 ∷ 0 ∷ 8 ∷ 0 ∷ 9 ∷ 0 ∷ 2 ∷ 0 ∷ 6 ∷ 0 ∷ 10 ∷ 0 ∷ 1 ∷ 0 ∷ 5 ∷ 0 ∷ 9 ∷ 0
+    ∷ 3 ∷ 0 ∷ 1 ∷ 0 ∷ 11 ∷ 0 ∷ 9 ∷ 0
+    ∷ 3 ∷ 0 ∷ 0 ∷ 0 ∷ 2 ∷ 0 ∷ 1 ∷ 0 ∷ 1 ∷ 0 ∷ 2 ∷ 0 ∷ 0 ∷ 0
+    ∷ 3 ∷ 0 ∷ 1 ∷ 0 ∷ 2 ∷ 0 ∷ 16 ∷ 0
+    ∷ []
+
+-- The listing of L, line by line.
 abbrev pub listingL : List ℕ
 listingL =
     ascii "vertices 3 switches 2 joins 0 work 8 nodes 4\n"
@@ -111,26 +143,28 @@ table =
     -- K9 two switches between 0 and 1: joins 2, work 4
     ∷ (joinsOf double ∷ workOf 2 (linksOf double) ∷ [], 2 ∷ 4 ∷ [])
     -- F1 empty input: 1 at 0
-    ∷ (outcome (analysis edition [] 65536), 1 ∷ 0 ∷ [])
+    ∷ (said (analysis edition [] 65536), 1 ∷ 0 ∷ [])
     -- F2 eight zero bytes: accepted, 16-byte room; one byte less gives 9
-    ∷ (outcome (analysis edition (replicate 8 0) 16), 16 ∷ [])
-    ∷ (outcome (analysis edition (replicate 8 0) 15), 9 ∷ 0 ∷ [])
+    ∷ (said (analysis edition (replicate 8 0) 16), replicate 8 0 ++ (3 ∷ replicate 7 0))
+    ∷ (said (analysis edition (replicate 8 0) 15), 9 ∷ 0 ∷ [])
     -- F3 nine zero bytes: 7 at 8
-    ∷ (outcome (analysis edition (replicate 9 0) 65536), 7 ∷ 8 ∷ [])
+    ∷ (said (analysis edition (replicate 9 0) 65536), 7 ∷ 8 ∷ [])
     -- F4 first count 201: 2 at 0
-    ∷ (outcome (analysis edition (bytesOf (201 ∷ [])) 65536), 2 ∷ 0 ∷ [])
-    -- L: four records, and 2 3, and 3 4, or 2 5, and 2 6; formulas 1, 6 and 4
-    ∷ (flatMap recordEntry (resultIn exampleL .records), 1 ∷ 2 ∷ 3 ∷ 1 ∷ 3 ∷ 4 ∷ 2 ∷ 2 ∷ 5 ∷ 1 ∷ 2 ∷ 6 ∷ [])
-    ∷ (resultIn exampleL .answers, 1 ∷ 6 ∷ 4 ∷ [])
-    -- pivots 0, 1 and 2 with degrees 1, 1 and 0; no given formulas, joins 0, work 8
-    ∷ (flatMap stepEntry (resultIn exampleL .order), 0 ∷ 1 ∷ 1 ∷ 1 ∷ 2 ∷ 0 ∷ [])
-    ∷ (resultIn exampleL .figures, 0 ∷ 0 ∷ 8 ∷ [])
-    -- vertex 1 is joined to the source where coil 7 is on, vertex 2 where both are
-    ∷ (truthsL (0 ∷ 0 ∷ []), 1 ∷ 0 ∷ 0 ∷ [])
-    ∷ (truthsL (1 ∷ 0 ∷ []), 1 ∷ 1 ∷ 0 ∷ [])
-    ∷ (truthsL (0 ∷ 1 ∷ []), 1 ∷ 0 ∷ 0 ∷ [])
-    ∷ (truthsL (1 ∷ 1 ∷ []), 1 ∷ 1 ∷ 1 ∷ [])
-    -- its listing, and that of a refusal
+    ∷ (said (analysis edition (201 ∷ 0 ∷ []) 65536), 2 ∷ 0 ∷ [])
+    -- L and T, byte by byte; for T just the room that it needs, 16 + 6 + 6 · 19 + 18, and one byte less
+    ∷ (said (analysis edition fileL 65536), resultL)
+    ∷ (said (analysis edition fileT 154), resultT)
+    ∷ (said (analysis edition fileT 153), 9 ∷ 0 ∷ [])
+    -- L: vertex 1 is joined to the source where coil 7 is on, vertex 2 where both are
+    ∷ (truthsIn resultL 3 (0 ∷ 0 ∷ []), 1 ∷ 0 ∷ 0 ∷ [])
+    ∷ (truthsIn resultL 3 (1 ∷ 0 ∷ []), 1 ∷ 1 ∷ 0 ∷ [])
+    ∷ (truthsIn resultL 3 (0 ∷ 1 ∷ []), 1 ∷ 0 ∷ 0 ∷ [])
+    ∷ (truthsIn resultL 3 (1 ∷ 1 ∷ []), 1 ∷ 1 ∷ 1 ∷ [])
+    -- T: vertex 1 where coil 7 or coil 300 is, vertex 2 where coil 1000 is besides
+    ∷ (truthsIn resultT 3 (0 ∷ 0 ∷ 1 ∷ []), 1 ∷ 0 ∷ 0 ∷ [])
+    ∷ (truthsIn resultT 3 (0 ∷ 1 ∷ 0 ∷ []), 1 ∷ 1 ∷ 0 ∷ [])
+    ∷ (truthsIn resultT 3 (1 ∷ 0 ∷ 1 ∷ []), 1 ∷ 1 ∷ 1 ∷ [])
+    -- the listing of L, and that of a refusal
     ∷ (listing fileL, listingL)
     ∷ (listing (replicate 9 0), ascii "refused 7 at 8\n")
     ∷ []
