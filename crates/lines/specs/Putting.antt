@@ -1,5 +1,5 @@
--- The lines as they are put: the parts of each, and that these fit.
-use mathlib.Core.Path.{_≡_, refl}
+-- The lines as they are put: the parts of each, and the room for these.
+use mathlib.Core.Path.{_≡_, refl, ap}
 use mathlib.Core.List.{List}
 use Prim.Native.Nat.{ℕ, _+_, _≤_}
 use native.Mathlib.Omega.{arith}
@@ -11,7 +11,7 @@ use Rattle.form.specs.declared.Record.{Record}
 use Rattle.network.specs.Network.{givenAt}
 use Rattle.stored.specs.Stored.{stepAt}
 use Rattle.text.specs.Puts.{Puts}
-use Rattle.text.specs.Texts.{ascii, field, pairLine}
+use Rattle.text.specs.Texts.{ascii, decimal, field, pairLine}
 use Rattle.lines.specs.Lines.{countsLine, pivotLine, kindText, secondText, recordLine, vertexLine}
 
 -- Lines of numbers that are read.
@@ -30,19 +30,51 @@ pub record-line : (s : List ℕ) (place reference kind first second : ℕ) → k
     → recordLine reference (givenAt s place) ≡ recordLine reference (record { kind = kind; first = first; second = second })
 record-line s place reference kind first second a b c = cc
 
--- Each kind's text.
-module _ (kind first : ℕ) where
-  pub and-field : kind ≡ kindAnd → field (kindText kind) first ≡ field (ascii " and ") first
-  unfolding kindText
-  and-field e = rw (eq-eqb kind kindAnd e)
+-- Each kind's text, and how long it is.
+module _ (kind : ℕ) where
+  module _ (e : kind ≡ kindAnd) where
+    pub and-text : kindText kind ≡ ascii " and "
+    unfolding kindText
+    and-text = rw (eq-eqb kind kindAnd e)
 
-  pub or-field : (kind ≡ kindAnd → ⊥) → kind ≡ kindOr → field (kindText kind) first ≡ field (ascii " or ") first
-  unfolding kindText
-  or-field a e = rw (ne-eqb kind kindAnd a, eq-eqb kind kindOr e)
+    pub and-long : length (kindText kind) ≡ 5
+    and-long = rw and-text
 
-  pub not-field : (kind ≡ kindAnd → ⊥) → (kind ≡ kindOr → ⊥) → field (kindText kind) first ≡ field (ascii " not ") first
-  unfolding kindText
-  not-field a o = rw (ne-eqb kind kindAnd a, ne-eqb kind kindOr o)
+  module _ (a : kind ≡ kindAnd → ⊥) where
+    module _ (e : kind ≡ kindOr) where
+      pub or-text : kindText kind ≡ ascii " or "
+      unfolding kindText
+      or-text = rw (ne-eqb kind kindAnd a, eq-eqb kind kindOr e)
+
+      pub or-long : length (kindText kind) ≡ 4
+      or-long = rw or-text
+
+    module _ (o : kind ≡ kindOr → ⊥) where
+      pub not-text : kindText kind ≡ ascii " not "
+      unfolding kindText
+      not-text = rw (ne-eqb kind kindAnd a, ne-eqb kind kindOr o)
+
+      pub not-long : length (kindText kind) ≡ 5
+      not-long = rw not-text
+
+-- An equal amount fits as well, and the text is put as well.
+pub fits-as : (x y more at room : ℕ) → x ≡ y → at + (x + more) ≤ room → at + (y + more) ≤ room
+fits-as x y more at room e h = rw e at h
+
+pub field-as : (x y : List ℕ) → x ≡ y → (n at : ℕ) (before after : List ℕ) (r : ℕ) → Puts (field y n) at before after r
+    → Puts (field x n) at before after r
+field-as x y e n at before after r p = rw e p
+
+-- The room of the first line, by its numbers: its texts are 40 bytes.
+abbrev pub countsRoom : ℕ → ℕ → ℕ → ℕ → ℕ → ℕ
+countsRoom vertices switches joins work nodes =
+    40
+    + (length (decimal vertices) + (length (decimal switches) + (length (decimal joins) + (length (decimal work) + length (decimal nodes)))))
+
+pub counts-long : (vertices switches joins work nodes : ℕ)
+    → length (countsLine vertices switches joins work nodes) ≡ countsRoom vertices switches joins work nodes
+unfolding countsLine
+counts-long vertices switches joins work nodes = simp length-append (omega arith)
 
 -- The second argument, and that not has none.
 module _ (r : Record) where
@@ -50,54 +82,25 @@ module _ (r : Record) where
   unfolding secondText
   second-none e at before = rw (eq-eqb (r .kind) kindNot e) (record { end = omega arith; long = refl; put = refl })
 
-  pub second-field : (r .kind ≡ kindNot → ⊥) → secondText r ≡ field (ascii " ") (r .second)
-  unfolding secondText
-  second-field e = rw (ne-eqb (r .kind) kindNot e)
+  module _ (e : r .kind ≡ kindNot → ⊥) where
+    pub second-field : secondText r ≡ field (ascii " ") (r .second)
+    unfolding secondText
+    second-field = rw (ne-eqb (r .kind) kindNot e)
 
--- The first line: how long it is, and that its parts fit one after another. The last part is a line of two texts and two numbers.
-module _ (vertices switches joins work nodes : ℕ) where
-  counts-length : length (countsLine vertices switches joins work nodes)
-      ≡ length (field (ascii "vertices ") vertices)
-      + (length (field (ascii " switches ") switches)
-      + (length (field (ascii " joins ") joins)
-      + length (pairLine (ascii " work ") work (ascii " nodes ") nodes)))
-  unfolding countsLine pairLine
-  counts-length = simp length-append
+    pub second-room : (at room : ℕ) → at + length (secondText r) ≤ room → at + (1 + length (decimal (r .second))) ≤ room
+    second-room at room h = omega (arith, ap length second-field)
 
-  module _ (b₀ : List ℕ) (fits : length (countsLine vertices switches joins work nodes) ≤ length b₀) where
-    pub counts-first : 0 + length (field (ascii "vertices ") vertices) ≤ length b₀
-    counts-first = omega (arith, counts-length)
+-- The room of a record's line, by its parts: its reference, its kind and first argument, its second.
+abbrev pub recordRoom : ℕ → Record → ℕ
+recordRoom reference r =
+    3 + (length (decimal reference) + (length (kindText (r .kind)) + length (decimal (r .first)) + length (secondText r)))
 
-    module _ (b₁ : List ℕ) (m₁ : ℕ) (p₁ : Puts (field (ascii "vertices ") vertices) 0 b₀ b₁ m₁) where
-      pub counts-second : m₁ + length (field (ascii " switches ") switches) ≤ length b₁
-      counts-second = omega (arith, counts-length)
+record-long : (reference : ℕ) (r : Record) → length (recordLine reference r) ≡ recordRoom reference r
+unfolding recordLine
+record-long reference r = simp length-append (omega arith)
 
-      module _ (b₂ : List ℕ) (m₂ : ℕ) (p₂ : Puts (field (ascii " switches ") switches) m₁ b₁ b₂ m₂) where
-        pub counts-third : m₂ + length (field (ascii " joins ") joins) ≤ length b₂
-        counts-third = omega (arith, counts-length)
-
-        pub counts-last : (b₃ : List ℕ) (m₃ : ℕ) → Puts (field (ascii " joins ") joins) m₂ b₂ b₃ m₃
-            → m₃ + length (pairLine (ascii " work ") work (ascii " nodes ") nodes) ≤ length b₃
-        counts-last b₃ m₃ p₃ = omega (arith, counts-length)
-
--- The line of a record likewise.
-module _ (reference : ℕ) (r : Record) where
-  record-length : length (recordLine reference r)
-      ≡ length (field (ascii "f ") reference) + (length (field (kindText (r .kind)) (r .first)) + (length (secondText r) + 1))
-  unfolding recordLine
-  record-length = simp length-append
-
-  module _ (at : ℕ) (b₀ : List ℕ) (fits : at + length (recordLine reference r) ≤ length b₀) where
-    pub record-first : at + length (field (ascii "f ") reference) ≤ length b₀
-    record-first = omega (arith, record-length)
-
-    module _ (b₁ : List ℕ) (m₁ : ℕ) (p₁ : Puts (field (ascii "f ") reference) at b₀ b₁ m₁) where
-      pub record-second : m₁ + length (field (kindText (r .kind)) (r .first)) ≤ length b₁
-      record-second = omega (arith, record-length)
-
-      module _ (b₂ : List ℕ) (m₂ : ℕ) (p₂ : Puts (field (kindText (r .kind)) (r .first)) m₁ b₁ b₂ m₂) where
-        pub record-third : m₂ + length (secondText r) ≤ length b₂
-        record-third = omega (arith, record-length)
-
-        pub record-ends : (b₃ : List ℕ) (m₃ : ℕ) → Puts (secondText r) m₂ b₂ b₃ m₃ → m₃ + 1 ≤ length b₃
-        record-ends b₃ m₃ p₃ = omega (arith, record-length)
+pub record-room : (s : List ℕ) (place reference kind first second at room : ℕ) → kind ≡ wordAt s place → first ≡ wordAt s (place + 2)
+    → second ≡ wordAt s (place + 4) → at + length (recordLine reference (givenAt s place)) ≤ room
+    → at + recordRoom reference (record { kind = kind; first = first; second = second }) ≤ room
+record-room s place reference kind first second at room a b c h =
+    rw (← record-long, ← record-line s place reference kind first second a b c) h

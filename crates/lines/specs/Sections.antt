@@ -14,29 +14,21 @@ use Rattle.text.specs.Puts.{Puts}
 use Rattle.text.specs.Putting.{puts-both}
 use Rattle.lines.specs.Lines.{countsLine, pivotLine, recordLine, vertexLine, lines, resultLines}
 use Rattle.lines.specs.Parts.{Laid}
+use Rattle.lines.specs.Putting.{countsRoom, counts-long}
 use Rattle.lines.specs.declared.Parts.{Parts}
 
 -- The lines after the first, for so many variables.
 unfoldable pub sectionLines : ℕ → Stored → List ℕ
 sectionLines p r = lines pivotLine 0 (r .order) ++ (lines recordLine (formula p 0) (r .records) ++ lines vertexLine 0 (r .answers))
 
--- Their parts fit one after another.
-module _ (p : ℕ) (r : Stored) (at : ℕ) (b₀ : List ℕ) (fits : at + length (sectionLines p r) ≤ length b₀) where
-  sections-length : length (sectionLines p r)
-      ≡ length (lines pivotLine 0 (r .order)) + (length (lines recordLine (formula p 0) (r .records)) + length (lines vertexLine 0 (r .answers)))
-  unfolding sectionLines
-  sections-length = simp length-append
+-- Their room, section by section.
+abbrev pub sectionsRoom : ℕ → Stored → ℕ
+sectionsRoom p r =
+    length (lines pivotLine 0 (r .order)) + (length (lines recordLine (formula p 0) (r .records)) + length (lines vertexLine 0 (r .answers)))
 
-  pub sections-first : at + length (lines pivotLine 0 (r .order)) ≤ length b₀
-  sections-first = omega (arith, sections-length)
-
-  module _ (b₁ : List ℕ) (m₁ : ℕ) (p₁ : Puts (lines pivotLine 0 (r .order)) at b₀ b₁ m₁) where
-    pub sections-second : m₁ + length (lines recordLine (formula p 0) (r .records)) ≤ length b₁
-    sections-second = omega (arith, sections-length)
-
-    pub sections-last : (b₂ : List ℕ) (m₂ : ℕ) → Puts (lines recordLine (formula p 0) (r .records)) m₁ b₁ b₂ m₂
-        → m₂ + length (lines vertexLine 0 (r .answers)) ≤ length b₂
-    sections-last b₂ m₂ p₂ = omega (arith, sections-length)
+sections-long : (p : ℕ) (r : Stored) → length (sectionLines p r) ≡ sectionsRoom p r
+unfolding sectionLines
+sections-long p r = simp length-append
 
 module _ (s : List ℕ) (parts : Parts) (laid : Laid s parts) where
   -- The counts and figures.
@@ -74,13 +66,29 @@ module _ (s : List ℕ) (parts : Parts) (laid : Laid s parts) where
     unfolding resultLines sectionLines
     result-lines = rw (variables-are, records-are, answers-are, joins-are, work-are)
 
+    abbrev countsTake : ℕ
+    countsTake = countsRoom (parts .answers) switches (parts .joins) (parts .work) (parts .records)
+
+    abbrev sectionsTake : ℕ
+    sectionsTake = sectionsRoom (parts .variables) (storedOf s)
+
     module _ (b₀ : List ℕ) (fits : length (resultLines switches (storedOf s)) ≤ length b₀) where
-      pub result-first : length counts ≤ length b₀
-      result-first = omega (arith, ap length result-lines, length-append counts sections)
+      both-fit : countsTake + sectionsTake ≤ length b₀
+      both-fit =
+          omega (
+            arith,
+            ap length result-lines,
+            length-append counts sections,
+            counts-long (parts .answers) switches (parts .joins) (parts .work) (parts .records),
+            sections-long (parts .variables) (storedOf s),
+          )
+
+      pub result-first : countsTake ≤ length b₀
+      result-first = omega (arith, both-fit)
 
       module _ (b₁ : List ℕ) (m₁ : ℕ) (p₁ : Puts counts 0 b₀ b₁ m₁) where
-        pub result-last : m₁ + length sections ≤ length b₁
-        result-last = omega (arith, ap length result-lines, length-append counts sections)
+        pub result-last : m₁ + sectionsTake ≤ length b₁
+        result-last = omega (arith, both-fit, counts-long (parts .answers) switches (parts .joins) (parts .work) (parts .records))
 
         pub result-put : (b₂ : List ℕ) (r : ℕ) → Puts sections m₁ b₁ b₂ r → Puts (resultLines switches (storedOf s)) 0 b₀ b₂ r
         result-put b₂ r p₂ = rw result-lines (puts-both counts sections 0 b₀ b₁ m₁ p₁ b₂ r p₂)

@@ -6,11 +6,12 @@ ghost use Rattle.form.specs.Numbers.{wordAt};
 ghost use Rattle.form.specs.References.{formula};
 ghost use Rattle.lines.specs.Lines.{countsLine, pivotLine, kindText, secondText, recordLine, vertexLine, lines, resultLines};
 ghost use Rattle.lines.specs.Parts.{Whole, Laid};
-ghost use Rattle.lines.specs.Sections.{sectionLines};
+ghost use Rattle.lines.specs.Putting.{countsRoom, recordRoom};
+ghost use Rattle.lines.specs.Sections.{sectionLines, sectionsRoom};
 ghost use Rattle.network.specs.Network.{givenAt};
 ghost use Rattle.stored.specs.Stored.{stepAt, storedOf};
 ghost use Rattle.text.specs.Puts.{Puts};
-ghost use Rattle.text.specs.Texts.{field};
+ghost use Rattle.text.specs.Texts.{decimal, field};
 use form::Record;
 
 // The counts of a result's sections, the places of those after the first, and the figures.
@@ -71,7 +72,7 @@ fn put_counts(
     work: usize,
     nodes: usize,
 ) -> usize
-    requires { ⌜ length (countsLine vertices switches joins work nodes) ≤ length (now out) ⌝ }
+    requires { ⌜ countsRoom vertices switches joins work nodes ≤ length (now out) ⌝ }
     ensures { λ r. ⌜ Puts (countsLine vertices switches joins work nodes) 0 (now (out .entry)) (now (out .exit)) r ⌝ }
 {
     let one = text::put_field(out, 0, b"vertices ", vertices);
@@ -108,8 +109,9 @@ fn put_pivots(out: &mut [u8], at: usize, result: &[u8], parts: Parts) -> usize
 
 // Puts a record's kind and first argument.
 fn put_kind(out: &mut [u8], at: usize, kind: u16, first: usize) -> usize
-    requires { ⌜ at + length (field (kindText kind) first) ≤ length (now out) ⌝ }
+    requires { ⌜ at + (length (kindText kind) + length (decimal first)) ≤ length (now out) ⌝ }
     ensures { λ r. ⌜ Puts (field (kindText kind) first) at (now (out .entry)) (now (out .exit)) r ⌝ }
+    ensures { λ r. ⌜ r ≡ at + (length (kindText kind) + length (decimal first)) ⌝ }
 {
     if kind == 1 {
         return text::put_field(out, at, b" and ", first);
@@ -133,7 +135,7 @@ fn put_second(out: &mut [u8], at: usize, r: Record) -> usize
 
 // Puts the line of a formula with this reference.
 fn put_formula(out: &mut [u8], at: usize, reference: usize, r: Record) -> usize
-    requires { ⌜ at + length (recordLine reference r) ≤ length (now out) ⌝ }
+    requires { ⌜ at + recordRoom reference r ≤ length (now out) ⌝ }
     ensures { λ end. ⌜ Puts (recordLine reference r) at (now (out .entry)) (now (out .exit)) end ⌝ }
 {
     let one = text::put_field(out, at, b"f ", reference);
@@ -203,7 +205,7 @@ fn put_vertices(out: &mut [u8], at: usize, result: &[u8], parts: Parts) -> usize
 // Puts the lines after the first.
 fn put_sections(out: &mut [u8], at: usize, result: &[u8], parts: Parts) -> usize
     requires { ⌜ Laid (now result) parts ⌝ }
-    requires { ⌜ at + length (sectionLines (parts .variables) (storedOf (now result))) ≤ length (now out) ⌝ }
+    requires { ⌜ at + sectionsRoom (parts .variables) (storedOf (now result)) ≤ length (now out) ⌝ }
     ensures { λ r. ⌜ Puts (sectionLines (parts .variables) (storedOf (now (result .entry)))) at (now (out .entry)) (now (out .exit)) r ⌝ }
 {
     let next = put_pivots(out, at, result, parts);

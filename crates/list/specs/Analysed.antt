@@ -8,22 +8,24 @@ use Rattle.analyse.specs.Promise.{Promise}
 use Rattle.analysis.specs.Analysis.{analysisFault, analysis, lengthIn}
 use Rattle.analysis.specs.Result.{resultOf}
 use Rattle.analysis.specs.Room.{resultRoom, fault-in-room}
-use Rattle.form.specs.Refusals.{Verdict, fine, fault, refused, accepted, answer, numberOf, placeOf}
+use Rattle.form.specs.Refusals.{Verdict, fine, fault, firstOf, refused, accepted, answer, numberOf, placeOf}
 use Rattle.form.specs.declared.Fault.{Fault}
 use Rattle.form.specs.declared.Reply.{Reply}
 use Rattle.form.specs.declared.Reply.the-variants as replies
 use Rattle.lines.specs.Lines.{resultLines}
 use Rattle.lines.specs.Parts.{Whole}
-use Rattle.network.specs.Layout.{networkAnswer}
+use Rattle.network.specs.Faults.{networkFault}
+use Rattle.network.specs.Layout.{Sound}
 use Rattle.network.specs.Lists.{switches-length}
 use Rattle.network.specs.Network.{edition, networkOf}
-use Rattle.network.specs.Ranges.{sound}
 use Rattle.network.specs.declared.Sections.{Sections}
+use Rattle.plan.specs.Measure.{operationsFault}
 use Rattle.stored.specs.Lengths.{result-end, result-three}
 use Rattle.stored.specs.Stored.{storedOf}
 use Rattle.stored.specs.StoredLaws.{stored-back}
 use Rattle.text.specs.Puts.{Puts}
-use Rattle.list.specs.Lengths.{listing-fits}
+use Rattle.list.specs.LineLengths.{Short}
+use Rattle.list.specs.Lengths.{lines-fit, listing-fits}
 use Rattle.list.specs.Listing.{refusedLine, listingFor, listing, listingRoom}
 
 -- A reply tells the verdict.
@@ -39,6 +41,7 @@ length-accepted (fault m p) bytes n e = let z : _≡_ {A = ℕ} 0 1 = cc in absu
 pub record Listed (s after : List ℕ) : Type 0 where
   pub whole : Whole after
   pub lines : listing s ≡ resultLines (length (networkOf s .switches)) (storedOf after)
+  pub fits : (switches : ℕ) → Short switches → length (resultLines switches (storedOf after)) ≤ listingRoom
 
 -- What an analysis in room enough for any result tells of the listing: it is a refusal's line, or those of the result.
 unfoldable pub Tells : List ℕ → List ℕ → Reply → Type 0
@@ -47,9 +50,12 @@ Tells s after (replies.Accepted n) = Listed s after
 
 module _ (s before after : List ℕ) (room : length before ≡ resultRoom) where
   -- The listing goes by the analysis' own verdict.
+  fault-by : (v : Verdict) → analysisFault edition s (length before) ≡ v → firstOf (networkFault edition s) (operationsFault (networkOf s)) ≡ v
+  fault-by v e = let f = fault-in-room s in rw (← f, ← room, e)
+
   listing-by : (v : Verdict) → analysisFault edition s (length before) ≡ v → listing s ≡ listingFor v (networkOf s)
   unfolding listing
-  listing-by v e = let f = fault-in-room s in rw (← f, ← room, e)
+  listing-by v e = rw (fault-by v e)
 
   pub analysis-tells : (reply : Reply) → Promise s before after reply → Tells s after reply
   unfolding Tells analysis listingFor
@@ -64,6 +70,7 @@ module _ (s before after : List ℕ) (room : length before ≡ resultRoom) where
       record {
         whole = rw bytes (record { room = omega (arith, length-append (resultOf net) tail); three = result-three net tail });
         lines = rw (bytes, stored-back net tail) (listing-by fine v);
+        fits = rw (bytes, stored-back net tail) (lines-fit s (fault-by fine v));
       }
 
 -- By its cases.
@@ -87,13 +94,15 @@ module _ (s after : List ℕ) (reply : Reply) (told : Tells s after reply) where
     pub told-whole : Whole after
     told-whole = listed .whole
 
-    module _ (parts : Sections) (a : accepted parts ≡ networkAnswer edition s) where
-      result-lines : listing s ≡ resultLines (parts .switches) (storedOf after)
-      result-lines = let count = switches-length (sound edition s parts a .layout) in rw (← count) (listed .lines)
+    -- Its lines fit, whatever number of five digits stands for the switches;
+    pub told-fits : (switches most : ℕ) → switches ≤ most → most ≤ 99999 → (out : List ℕ) → listingRoom ≤ length out
+        → length (resultLines switches (storedOf after)) ≤ length out
+    told-fits switches most a b out h = omega (arith, listed .fits switches (omega arith))
 
-      pub told-fits : (out : List ℕ) → listingRoom ≤ length out → length (resultLines (parts .switches) (storedOf after)) ≤ length out
-      told-fits out h = rw (← result-lines) (omega (arith, listing-fits s))
-
-      pub told-put : {out put : List ℕ} {r : ℕ} → Puts (resultLines (parts .switches) (storedOf after)) 0 out put r
-          → Puts (listing s) 0 out put r
-      told-put puts = rw result-lines puts
+    -- with the file's own they are the listing.
+    pub told-put : (parts : Sections) → Sound edition s parts
+        → {out put : List ℕ} {r : ℕ} → Puts (resultLines (parts .switches) (storedOf after)) 0 out put r → Puts (listing s) 0 out put r
+    told-put parts sound puts =
+        let count = switches-length (sound .layout) in
+        let lines : listing s ≡ resultLines (parts .switches) (storedOf after) = rw (← count) (listed .lines) in
+        rw lines puts

@@ -30,15 +30,14 @@ use Rattle.writer.specs.Lengths.{steps-long}
 use Rattle.writer.specs.Steps.{steps-are, plan-fits}
 use Rattle.lines.specs.Lines.{pivotLine, recordLine, vertexLine, lines, resultLines}
 use Rattle.list.specs.Listing.{listingFor, listing, listingRoom}
-use Rattle.list.specs.LineLengths.{refused-most, pivot-most, vertex-most, record-most, counts-most, lines-most}
+use Rattle.list.specs.LineLengths.{Short, refused-most, pivot-most, vertex-most, record-most, counts-most, lines-most}
 
 -- No pivot.
 abbrev noStep : Step
 noStep = record { vertex = 0; degree = 0 }
 
 -- How many lines a result has at most, and how large their numbers are.
-record Limited (switches : ℕ) (r : Stored) : Type 0 where
-  pub wired : switches ≤ edition .switches
+record Limited (r : Stored) : Type 0 where
   pub joins : joinsFigure r ≤ 10000
   pub work : workFigure r ≤ 10000
   pub variables : length (r .variables) ≤ edition .variables
@@ -51,7 +50,7 @@ record Limited (switches : ℕ) (r : Stored) : Type 0 where
   pub degree : (k : ℕ) → k < length (r .order) → getD (r .order) k noStep .degree < 65536
 
 -- Its lines.
-module _ (switches : ℕ) (r : Stored) (limited : Limited switches r) where
+module _ (r : Stored) (limited : Limited r) where
   pivots-most : length (lines pivotLine 0 (r .order)) ≤ 25 * length (r .order)
   pivots-most =
       lines-most pivotLine 25 noStep 0 (r .order)
@@ -67,9 +66,10 @@ module _ (switches : ℕ) (r : Stored) (limited : Limited switches r) where
   answers-most =
       lines-most vertexLine 27 0 0 (r .answers) (λ v h. vertex-most (0 + v) _ (omega arith) (omega (arith, limited .answer v h)))
 
-  result-fits : length (resultLines switches r) ≤ listingRoom
+  -- They fit, whatever number of five digits stands for the switches.
+  result-fits : (switches : ℕ) → Short switches → length (resultLines switches r) ≤ listingRoom
   unfolding resultLines
-  result-fits =
+  result-fits switches h =
       let counts =
       counts-most (length (r .answers)) switches (joinsFigure r) (workFigure r) (length (r .records))
       (omega arith) (omega arith) (omega arith) (omega arith) (omega arith) in
@@ -77,7 +77,7 @@ module _ (switches : ℕ) (r : Stored) (limited : Limited switches r) where
 
 -- The result of an accepted file is so, where no more operations are asked than are allowed.
 result-limited : (s : List ℕ) → Sound edition s (sectionsOf s) → operations (networkOf s) ≤ 10000
-    → Limited (length (networkOf s .switches)) (resultIn (networkOf s))
+    → Limited (resultIn (networkOf s))
 unfolding resultIn operations stepsIn
 result-limited s sound few =
     let net = networkOf s in
@@ -91,7 +91,6 @@ result-limited s sound few =
     let answers = vertices-long (λ (v : ℕ). eliminated net .cells (Start v)) n in
     let vertices = starts-length layout in
     record {
-      wired = omega (arith, switches-length layout);
       joins = omega arith;
       work = omega arith;
       variables = omega (arith, variables-length layout);
@@ -104,13 +103,20 @@ result-limited s sound few =
       degree = λ k h. rw (← order, vertex-at (stepAt found) n k noStep (omega arith)) (fits .degree k (omega arith));
     }
 
--- Every listing fits.
+-- The lines of a result fit,
+pub lines-fit : (s : List ℕ) → firstOf (networkFault edition s) (operationsFault (networkOf s)) ≡ fine
+    → (switches : ℕ) → Short switches → length (resultLines switches (resultIn (networkOf s))) ≤ listingRoom
+lines-fit s e =
+    let h = first-fine _ _ e in
+    result-fits _ (result-limited s (in-range edition s (h .0)) (operations-fine (networkOf s) (h .1)))
+
+-- and so does every listing.
 listing-for : (s : List ℕ) (v : Verdict) → firstOf (networkFault edition s) (operationsFault (networkOf s)) ≡ v
     → length (listingFor v (networkOf s)) ≤ listingRoom
 unfolding listingFor
 listing-for s fine e =
-    let h = first-fine _ _ e in
-    result-fits _ _ (result-limited s (in-range edition s (h .0)) (operations-fine (networkOf s) (h .1)))
+    let sound = in-range edition s (first-fine _ _ e .0) in
+    lines-fit s e _ (omega (arith, switches-length (sound .layout), sound .within .switches))
 listing-for s (fault number place) e =
     let placed = placed-fault 6656 _ number place (rw (fault-in-room s) at (analysis-placed s resultRoom)) e in
     omega (arith, refused-most number place (omega (arith, placed .high)) (omega (arith, placed .inside)))

@@ -16,7 +16,8 @@ use Rattle.reader.specs.Callers.{reads-refused}
 use Rattle.reader.specs.declared.Checked.{Checked}
 use Rattle.reader.specs.declared.Checked.the-variants as checks
 use Rattle.text.specs.Puts.{Puts}
-use Rattle.text.specs.Texts.{ascii, pairLine}
+use Rattle.text.specs.Putting.{pair-room}
+use Rattle.text.specs.Texts.{ascii, decimal, pairLine}
 use Rattle.list.specs.Lengths.{listing-fits}
 use Rattle.list.specs.Listing.{refusedLine, listingFor, listing, listingRoom, putIn}
 
@@ -39,9 +40,9 @@ module _ (f : Fault) (number place : ℕ) (a : number ≡ numberOf f) (b : place
   unfolding refusedLine
   line-is = rw (a, b)
 
-  pub line-fits : (out : List ℕ) → length (refusedLine (numberOf f) (placeOf f)) ≤ length out
-      → 0 + length (pairLine (ascii "refused ") number (ascii " at ") place) ≤ length out
-  line-fits out h = rw line-is (omega arith)
+  pub line-room : (out : List ℕ) → length (refusedLine (numberOf f) (placeOf f)) ≤ length out
+      → 0 + (8 + length (decimal number) + (4 + length (decimal place) + 1)) ≤ length out
+  line-room out h = pair-room _ (ascii "refused ") number (ascii " at ") place 0 (length out) (sym line-is) (omega arith)
 
   pub line-put : (before after : List ℕ) (r : ℕ) → Puts (pairLine (ascii "refused ") number (ascii " at ") place) 0 before after r
       → Puts (refusedLine (numberOf f) (placeOf f)) 0 before after r

@@ -2,9 +2,9 @@
 ghost use mathlib.Core.Path.{_≡_};
 ghost use Prim.Native.Nat.{_≤_};
 ghost use lib.ListN.{length};
-ghost use Rattle.form.specs.Refusals.{accepted, numberOf, placeOf};
+ghost use Rattle.form.specs.Refusals.{numberOf, placeOf};
 ghost use Rattle.analysis.specs.Room.{resultRoom};
-ghost use Rattle.network.specs.Layout.{networkAnswer};
+ghost use Rattle.network.specs.Layout.{Sound};
 ghost use Rattle.network.specs.Network.{edition};
 ghost use Rattle.text.specs.Puts.{Puts};
 ghost use Rattle.list.specs.Analysed.{Tells};
@@ -42,7 +42,7 @@ fn analysed(file: &[u8], result: &mut [u8; RESULT_ROOM]) -> Reply
 
 // Lists an accepted file.
 fn list_accepted(file: &[u8], parts: Sections, out: &mut [u8]) -> usize
-    requires { ⌜ accepted parts ≡ networkAnswer edition (now file) ⌝ }
+    requires { ⌜ Sound edition (now file) parts ⌝ }
     requires { ⌜ listingRoom ≤ length (now out) ⌝ }
     ensures { λ r. ⌜ Puts (listing (now (file .entry))) 0 (now (out .entry)) (now (out .exit)) r ⌝ }
 {

@@ -1,7 +1,9 @@
 -- What a function over the sheet asks, and what it promises: the sheet at exit, each byte of the buffer, and that it can go on.
 use mathlib.Core.Path.{_≡_, refl, sym, ap, _∙_}
-use mathlib.Core.List.{List, [], _++_, flatMap, append-nil, append-assoc}
+use mathlib.Core.Bool.{cond}
+use mathlib.Core.List.{List, [], _∷_, _++_, flatMap, append-nil, append-assoc}
 use Prim.Native.Nat.{ℕ, suc, _+_, _-_, _≤_, _<_}
+use native.Mathlib.Nat.{add-zero}
 use native.Mathlib.Omega.{arith}
 use native.Mathlib.Numerals.{add-one}
 use lib.ListN.{length, getD}
@@ -49,6 +51,11 @@ module _ (p base : ℕ) where
   pub ready-after : (f : Sheet → Sheet) (a b : ℕ) {c o c′ o′ : List ℕ} {n n′ : ℕ} → Ready p base (a + b) c o n → Runs p base f a c o n c′ o′ n′
       → Ready p base b c′ o′ n′
   ready-after f a b r x = record { held = x .held; table = table-after p base a b (r .table) (x .grown) }
+
+  -- There is room for an operation, whichever cells it names.
+  pub ready-one : (x : Ask) {c o : List ℕ} {n : ℕ} → Ready p base (work (x ∷ [])) c o n → Ready p base (cond (x .joined) 2 1) c o n
+  unfolding work
+  ready-one x r = rw add-zero at r
 
   -- Nothing is to be done.
   pub ran-none : {more : ℕ} {c o : List ℕ} {n : ℕ} → Ready p base more c o n → Ran p base [] c o n c o n

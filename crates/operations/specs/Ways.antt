@@ -8,7 +8,7 @@ use native.Mathlib.Nat.{add-zero}
 use lib.ListN.{length, getD, set, length-set}
 use Rattle.laws.specs.Places.{set-below}
 use Rattle.laws.specs.Tests.{byChoice}
-use Rattle.form.specs.References.{kindAnd, formula}
+use Rattle.form.specs.References.{formula}
 use Rattle.network.specs.Network.{side}
 use Rattle.formula.specs.Make.{Outcome, make}
 use Rattle.formula.specs.MakeLaws.{Keeps}
@@ -74,12 +74,12 @@ runs-put p base most o c cells s t n m i held keeps gives =
 pub product-room : (p base n : ℕ) (s : List ℕ) (joined : Bool) → Table p base (cond joined 2 1) n s → Room p base n s
 product-room p base n s joined table = table-room p base (cond joined 2 1) (byChoice (λ (k : ℕ). 1 ≤ k) joined 2 1 (λ t. omega arith) (λ t. omega arith)) table
 
-module _ (p base a b n : ℕ) (s t : List ℕ) (m : Made) (joined : Bool) (e : joined ≡ true) (table : Table p base (cond joined 2 1) n s)
-    (ha : a < formula p n) (hb : b < formula p n) (made : Makes (make p kindAnd a b) base n s t m) where
+-- then, whatever its kind, for its sum,
+module _ (p base kind a b n : ℕ) (s t : List ℕ) (m : Made) (joined : Bool) (e : joined ≡ true) (table : Table p base (cond joined 2 1) n s)
+    (ha : a < formula p n) (hb : b < formula p n) (made : Makes (make p kind a b) base n s t m) where
   grown : Grown p base 1 s n t (m .count)
-  grown = grown-made p base kindAnd a b (table .orderly) ha hb t m made
+  grown = grown-made p base kind a b (table .orderly) ha hb t m made
 
-  -- then for its sum,
   pub sum-room : Room p base (m .count) t
   sum-room = table-room p base 1 (omega arith) (table-after p base 1 1 (rw e at table) grown)
 
@@ -88,10 +88,10 @@ module _ (p base a b n : ℕ) (s t : List ℕ) (m : Made) (joined : Bool) (e : j
   sum-first was h = omega (arith, grown .more)
 
   pub sum-second : m .reference .number < formula p (m .count)
-  sum-second = made-below p base kindAnd a b (table .orderly) ha hb t m made
+  sum-second = made-below p base kind a b (table .orderly) ha hb t m made
 
 -- An operation has been carried out.
-pub asked-ran : (p base : ℕ) (x : Ask) (cells s t : List ℕ) (n : ℕ) (m : Made) → Ready p base (work (x ∷ [])) cells s n
+pub asked-ran : (p base : ℕ) (x : Ask) (cells s t : List ℕ) (n : ℕ) (m : Made) → Ready p base (cond (x .joined) 2 1) cells s n
     → Inside (x .to) → Inside (x .a) → Inside (x .b)
     → (was a b : ℕ) → was ≡ cellsIn cells (x .to) → a ≡ cellsIn cells (x .a) → b ≡ cellsIn cells (x .b)
     → Makes (product p (x .joined) was a b) base n s t m
@@ -105,11 +105,6 @@ asked-ran p base x cells s t n m r it ia ib was a b ew ea eb made written e =
     let k = keeps-product p (recordsIn s base n) (r .table .orderly) (cellsIn cells (x .to)) (cellsIn cells (x .a)) (cellsIn cells (x .b))
     (below (x .to) it) (below (x .a) ia) (below (x .b) ib) (x .joined) in
     rw (e, add-zero) (runs-put p base (cond (x .joined) 2 1) (asked p x) (x .to) cells s t n m it (r .held) k (rw (ew, ea, eb) at made))
-
--- There is room for what an operation asks.
-pub asked-table : (p base : ℕ) (x : Ask) (cells s : List ℕ) (n : ℕ) → Ready p base (work (x ∷ [])) cells s n → Table p base (cond (x .joined) 2 1) n s
-unfolding work
-asked-table p base x cells s n r = rw add-zero at (r .table)
 
 -- What a cell holds is there.
 pub cell-below : (p base more : ℕ) (cells s : List ℕ) (n : ℕ) (c : Cell) (r : ℕ) → Ready p base more cells s n → Inside c → r ≡ cellsIn cells c

@@ -8,7 +8,6 @@ ghost use Rattle.form.specs.References.{formula};
 ghost use Rattle.network.specs.Network.{side};
 ghost use Rattle.records.specs.Gives.{Makes};
 ghost use Rattle.records.specs.Grown.{Table};
-ghost use Rattle.sheet.specs.Asks.{work};
 ghost use Rattle.sheet.specs.Cells.{cellsIn, placeOf, Inside};
 ghost use Rattle.sheet.specs.Perform.{product};
 ghost use Rattle.sheet.specs.declared.Cell.the-variants.{Label};
@@ -89,7 +88,7 @@ pub fn ask(
     count: usize,
     x: Ask,
 ) -> usize
-    requires { ⌜ Ready p base (work (x ∷ [])) (now cells) (now out) count ⌝ }
+    requires { ⌜ Ready p base (cond (x .joined) 2 1) (now cells) (now out) count ⌝ }
     requires { ⌜ Inside (x .to) × Inside (x .a) × Inside (x .b) ⌝ }
     ensures { λ r. ⌜ Ran p base (x ∷ []) (now (cells .entry)) (now (out .entry)) count (now (cells .exit)) (now (out .exit)) r ⌝ }
 {

@@ -1,17 +1,20 @@
 -- The ways out of the functions that carry a pivot's plan out.
 use mathlib.Core.Path.{_≡_, sym, _∙_}
-use mathlib.Core.Bool.{true}
+use mathlib.Core.Bool.{true, cond}
 use mathlib.Core.List.{List, [], _∷_, _++_}
 use Prim.Native.Nat.{ℕ, _+_, _*_, _<_}
+use native.Mathlib.Omega.{arith}
 use borrow.Author.Tests.{eq-eqb, ne-eqb}
 use lib.Dec.{eqb}
 use lib.ListN.{getD}
 use Rattle.elimination.specs.Plan.{passStart}
+use Rattle.laws.specs.Tests.{byChoice}
 use Rattle.network.specs.Network.{side}
-use Rattle.operations.specs.Runs.{Ready, Ran, ran-none, ran-then, ready-first, ready-second}
+use Rattle.operations.specs.Runs.{Ready, Ran, ready-less, ready-one, ran-none, ran-then, ready-first}
 use Rattle.plan.specs.Degree.{nearBy, near-no, near-yes}
 use Rattle.plan.specs.Matrix.{linked-is}
 use Rattle.sheet.specs.Asks.{ask, work}
+use Rattle.sheet.specs.declared.Ask.{Ask}
 use Rattle.sheet.specs.declared.Cell.the-variants.{Start, Label}
 use Rattle.solve.specs.Turns.{labelTurn, labelsTo, neighbourTurn, backTurn}
 
@@ -33,8 +36,8 @@ module _ (p base : ℕ) (links rest : List ℕ) (pivot : ℕ) where
         unfolding labelTurn
         label-is = rw (near-yes links rest pivot u (λ k. e (near ∙ k)), ne-eqb v u d, linked-is links u v h)
 
-        pub label-ready : Ready p base (work (ask (eqb (getD links (side * u + v) 0) 1) (Label u v) (Label u pivot) (Label pivot v) ∷ [])) c o m
-        label-ready = rw label-is at ready
+        pub label-ready : Ready p base (cond (eqb (getD links (side * u + v) 0) 1) 2 1) c o m
+        label-ready = ready-one p base _ (rw label-is at ready)
 
         pub label-ran : {c′ o′ : List ℕ} {m′ : ℕ}
             → Ran p base (ask (eqb (getD links (side * u + v) 0) 1) (Label u v) (Label u pivot) (Label pivot v) ∷ []) c o m c′ o′ m′
@@ -52,16 +55,22 @@ module _ (p base : ℕ) (links rest : List ℕ) (pivot : ℕ) where
         unfolding neighbourTurn
         neighbour-is = rw (near-yes links rest pivot u (λ k. e (near ∙ k)))
 
-        pub start-ready : Ready p base (work (passStart pivot u ∷ [])) c o m
-        start-ready = ready-first p base (passStart pivot u ∷ []) (labelsTo links rest n pivot u) (rw neighbour-is at ready)
+        pub start-ready : Ready p base 2 c o m
+        start-ready = ready-one p base _ (ready-first p base (passStart pivot u ∷ []) (labelsTo links rest n pivot u) (rw neighbour-is at ready))
 
-        module _ {c′ o′ : List ℕ} {m′ : ℕ} (r : Ran p base (passStart pivot u ∷ []) c o m c′ o′ m′) where
-          pub labels-ready : Ready p base (work (labelsTo links rest n pivot u)) c′ o′ m′
-          labels-ready = ready-second p base (passStart pivot u ∷ []) (labelsTo links rest n pivot u) (rw neighbour-is at ready) r
+        -- There is room for the labels after an operation, whichever that is.
+        pub labels-ready : (y : Ask) → Ready p base (work (y ∷ []) + work (labelsTo links rest n pivot u)) c o m
+        unfolding work
+        labels-ready y =
+            let more = work (labelsTo links rest n pivot u) in
+            byChoice (λ (k : ℕ). Ready p base (k + 0 + more) c o m) (y .joined) 2 1 (λ t. start) (λ t. ready-less p base (2 + more) (1 + more) (omega arith) start)
+          where
+            start : Ready p base (2 + work (labelsTo links rest n pivot u)) c o m
+            start = rw neighbour-is at ready
 
-          pub neighbour-ran : {c″ o″ : List ℕ} {m″ : ℕ} → Ran p base (labelsTo links rest n pivot u) c′ o′ m′ c″ o″ m″
-              → Ran p base (neighbourTurn links rest n pivot u) c o m c″ o″ m″
-          neighbour-ran s = rw neighbour-is (ran-then p base (passStart pivot u ∷ []) (labelsTo links rest n pivot u) r s)
+        pub neighbour-ran : {c′ o′ c″ o″ : List ℕ} {m′ m″ : ℕ} → Ran p base (passStart pivot u ∷ []) c o m c′ o′ m′
+            → Ran p base (labelsTo links rest n pivot u) c′ o′ m′ c″ o″ m″ → Ran p base (neighbourTurn links rest n pivot u) c o m c″ o″ m″
+        neighbour-ran r s = rw neighbour-is (ran-then p base (passStart pivot u ∷ []) (labelsTo links rest n pivot u) r s)
 
     -- The answer of the pivot, from u.
     module _ (ready : Ready p base (work (backTurn links rest pivot u)) c o m) where
@@ -74,8 +83,8 @@ module _ (p base : ℕ) (links rest : List ℕ) (pivot : ℕ) where
         unfolding backTurn
         back-is = rw (near-yes links rest pivot u (λ k. e (near ∙ k)))
 
-        pub back-ready : Ready p base (work (ask true (Start pivot) (Start u) (Label u pivot) ∷ [])) c o m
-        back-ready = rw back-is at ready
+        pub back-ready : Ready p base 2 c o m
+        back-ready = ready-one p base _ (rw back-is at ready)
 
         pub back-ran : {c′ o′ : List ℕ} {m′ : ℕ} → Ran p base (ask true (Start pivot) (Start u) (Label u pivot) ∷ []) c o m c′ o′ m′
             → Ran p base (backTurn links rest pivot u) c o m c′ o′ m′

@@ -7,7 +7,7 @@ use native.Mathlib.Numerals.{add-one}
 use native.Mathlib.Omega.{arith}
 use lib.ListN.{length, getD, set, drop, length-append, length-set, drop-of-length-le}
 use lib.Seq.{sets, drop-cons}
-use Rattle.text.specs.Texts.{digit, decimal, ending, field, pairLine}
+use Rattle.text.specs.Texts.{digit, decimal, pairLine}
 use Rattle.text.specs.Puts.{Puts}
 use Rattle.text.specs.Decimals.{decimal-one, decimal-more}
 
@@ -17,13 +17,15 @@ sets-append l i [] ws = ap (λ (k : ℕ). sets l k ws) (omega arith)
 sets-append l i (v ∷ vs) ws =
     sets-append (set l i v) (suc i) vs ws ∙ ap (λ (k : ℕ). sets (sets (set l i v) (suc i) vs) k ws) (omega arith)
 
--- An equal text fits as well, and is put as well.
-module _ (x y : List ℕ) (e : x ≡ y) (at : ℕ) where
-  pub fits-as : (room : ℕ) → at + length x ≤ room → at + length y ≤ room
-  fits-as room h = rw e at h
+-- An equal text is put as well.
+pub puts-as : (x y : List ℕ) → x ≡ y → (at : ℕ) (before after : List ℕ) (r : ℕ) → Puts y at before after r → Puts x at before after r
+puts-as x y e at before after r p = rw e p
 
-  pub puts-as : (before after : List ℕ) (r : ℕ) → Puts y at before after r → Puts x at before after r
-  puts-as before after r p = rw e p
+-- There is room for the parts of a line of two texts and two numbers.
+pub pair-room : (x first : List ℕ) (a : ℕ) (second : List ℕ) (b at room : ℕ) → x ≡ pairLine first a second b → at + length x ≤ room
+    → at + (length first + length (decimal a) + (length second + length (decimal b) + 1)) ≤ room
+unfolding pairLine
+pair-room x first a second b at room e h = omega (arith, simp length-append at (ap length e))
 
 -- The first part of a text that fits fits.
 pub fits-first : (x y : List ℕ) (at room : ℕ) → at + length (x ++ y) ≤ room → at + length x ≤ room
@@ -31,7 +33,7 @@ fits-first x y at room h = omega (arith, length-append x y)
 
 module _ (x y : List ℕ) (at : ℕ) (before mid : List ℕ) (m : ℕ) (first : Puts x at before mid m) where
   -- Once it is put the second does,
-  pub fits-second : at + length (x ++ y) ≤ length before → m + length y ≤ length mid
+  fits-second : at + length (x ++ y) ≤ length before → m + length y ≤ length mid
   fits-second h = omega (arith, length-append x y)
 
   -- and then both are put as one.
@@ -42,24 +44,6 @@ module _ (x y : List ℕ) (at : ℕ) (before mid : List ℕ) (m : ℕ) (first : 
         long = second .long ∙ first .long;
         put = second .put ∙ rw (first .put, first .end) (sym (sets-append before at x y));
       }
-
--- A line of two texts and two numbers: how long it is, and that its parts fit.
-pair-length : (first : List ℕ) (a : ℕ) (second : List ℕ) (b : ℕ)
-    → length (pairLine first a second b) ≡ length (field first a) + (length (field second b) + 1)
-unfolding pairLine
-pair-length first a second b = rw (length-append (field first a) (field second b ++ ending), length-append (field second b) ending)
-
-module _ (first : List ℕ) (a : ℕ) (second : List ℕ) (b at : ℕ) (before : List ℕ)
-    (fits : at + length (pairLine first a second b) ≤ length before) where
-  pub pair-first : at + length (field first a) ≤ length before
-  pair-first = omega (arith, pair-length first a second b)
-
-  module _ (mid : List ℕ) (m : ℕ) (one : Puts (field first a) at before mid m) where
-    pub pair-second : m + length (field second b) ≤ length mid
-    pair-second = omega (arith, pair-length first a second b)
-
-    pub pair-ends : (next : List ℕ) (r : ℕ) → Puts (field second b) m mid next r → r + 1 ≤ length next
-    pair-ends next r two = omega (arith, pair-length first a second b)
 
 -- A number of one digit.
 module _ (n : ℕ) (few : n < 10) (at : ℕ) (before : List ℕ) where

@@ -1,4 +1,5 @@
 // Text put into a lent buffer: texts, numbers in decimal, and lines of the two.
+ghost use mathlib.Core.Path.{_≡_};
 ghost use Prim.Native.Nat.{_+_, _<_, _≤_};
 ghost use lib.ListN.{length};
 ghost use Rattle.text.specs.Puts.{Puts};
@@ -40,8 +41,9 @@ pub fn put_decimal(out: &mut [u8], at: usize, n: usize) -> usize
 
 // Puts a text and a number.
 pub fn put_field(out: &mut [u8], at: usize, text: &[u8], n: usize) -> usize
-    requires { ⌜ at + length (field (now text) n) ≤ length (now out) ⌝ }
+    requires { ⌜ at + (length (now text) + length (decimal n)) ≤ length (now out) ⌝ }
     ensures { λ r. ⌜ Puts (field (now (text .entry)) n) at (now (out .entry)) (now (out .exit)) r ⌝ }
+    ensures { λ r. ⌜ r ≡ at + (length (now (text .entry)) + length (decimal n)) ⌝ }
 {
     let next = put_text(out, at, text);
     put_decimal(out, next, n)
@@ -49,7 +51,7 @@ pub fn put_field(out: &mut [u8], at: usize, text: &[u8], n: usize) -> usize
 
 // Puts a line of two texts, each before a number.
 pub fn put_pair(out: &mut [u8], at: usize, first: &[u8], a: usize, second: &[u8], b: usize) -> usize
-    requires { ⌜ at + length (pairLine (now first) a (now second) b) ≤ length (now out) ⌝ }
+    requires { ⌜ at + (length (now first) + length (decimal a) + (length (now second) + length (decimal b) + 1)) ≤ length (now out) ⌝ }
     ensures { λ r. ⌜ Puts (pairLine (now (first .entry)) a (now (second .entry)) b) at (now (out .entry)) (now (out .exit)) r ⌝ }
 {
     let middle = put_field(out, at, first, a);

@@ -2,7 +2,6 @@
 use Rattle.text.specs.Putting.{puts-both}
 use Rattle.text.specs.Texts.{pairLine}
 use Rattle.lines.specs.Lines.{countsLine}
-use Rattle.lines.specs.Putting.{counts-first, counts-second, counts-third, counts-last}
 use borrow.Author.Needs.{needs}
 use Rattle.lines.proofs.put_counts.Statement.{statement}
 use Rattle.lines.proofs.put_counts.Tie as tie
@@ -13,13 +12,13 @@ put-counts-spec =
     tie.close
     (tie.spec
     (λ c. search needs)
-    (λ c κs. search counts-first)
+    (λ c κs. search needs)
     (λ c. search needs)
-    (λ c κs. search counts-second)
+    (λ c κs. search needs)
     (λ c. search needs)
-    (λ c κs. search counts-third)
+    (λ c κs. search needs)
     (λ c. search needs)
     (λ c. search needs)
-    (λ c κs. search counts-last)
+    (λ c κs. search needs)
     (λ c. search needs)
     (λ c. search puts-both))

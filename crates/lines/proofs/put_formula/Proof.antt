@@ -1,7 +1,6 @@
 -- `lines::put_formula` meets its contract: reference, kind, arguments, and the ending.
 use Rattle.text.specs.Putting.{puts-both}
 use Rattle.lines.specs.Lines.{recordLine}
-use Rattle.lines.specs.Putting.{record-first, record-second, record-third, record-ends}
 use borrow.Author.Needs.{needs}
 use Rattle.lines.proofs.put_formula.Statement.{statement}
 use Rattle.lines.proofs.put_formula.Tie as tie
@@ -12,11 +11,11 @@ put-formula-spec =
     tie.close
     (tie.spec
     (λ c. search needs)
-    (λ c κs. search record-first)
+    (λ c κs. search needs)
     (λ c. search needs)
-    (λ c κs. search record-second)
-    (λ c κs. search record-third)
+    (λ c κs. search needs)
+    (λ c κs. search needs)
     (λ c. search needs)
-    (λ c κs. search record-ends)
+    (λ c κs. search needs)
     (λ c. search needs)
     (λ c. search puts-both))

@@ -1,6 +1,5 @@
 -- `lines::put_kind` meets its contract: each kind has its text.
-use Rattle.text.specs.Putting.{fits-as, puts-as}
-use Rattle.lines.specs.Putting.{and-field, or-field, not-field}
+use Rattle.lines.specs.Putting.{and-text, and-long, or-text, or-long, not-text, not-long, fits-as, field-as}
 use borrow.Author.Needs.{needs}
 use Rattle.lines.proofs.put_kind.Statement.{statement}
 use Rattle.lines.proofs.put_kind.Tie as tie
@@ -10,14 +9,14 @@ put-kind-spec =
     tie.close
     (tie.spec
     (λ c. search needs)
-    (λ c κs. search (fits-as, and-field))
+    (λ c κs. search (fits-as, and-long))
     (λ c. search needs)
-    (λ c. search (puts-as, and-field))
+    (λ c. (search (field-as, and-text), search (and-long, needs)))
     (λ c. search needs)
-    (λ c κs. search (fits-as, or-field))
+    (λ c κs. search (fits-as, or-long))
     (λ c. search needs)
-    (λ c. search (puts-as, or-field))
+    (λ c. (search (field-as, or-text), search (or-long, needs)))
     (λ c. search needs)
-    (λ c κs. search (fits-as, not-field))
+    (λ c κs. search (fits-as, not-long))
     (λ c. search needs)
-    (λ c. search (puts-as, not-field)))
+    (λ c. (search (field-as, not-text), search (not-long, needs))))

@@ -1,5 +1,5 @@
 -- `lines::put_pivot` meets its contract: the numbers stand at their places.
-use Rattle.text.specs.Putting.{fits-as, puts-as}
+use Rattle.text.specs.Putting.{puts-as, pair-room}
 use Rattle.lines.specs.Putting.{pivot-line}
 use borrow.Author.Needs.{needs}
 use Rattle.lines.proofs.put_pivot.Statement.{statement}
@@ -14,6 +14,6 @@ put-pivot-spec =
     (λ c κs. search needs)
     (λ c. search needs)
     (λ c. search needs)
-    (λ c κs. search (fits-as, pivot-line))
+    (λ c κs. search (pair-room, pivot-line))
     (λ c. search needs)
     (λ c. search (puts-as, pivot-line)))

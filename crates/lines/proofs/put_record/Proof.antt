@@ -1,6 +1,6 @@
 -- `lines::put_record` meets its contract: the numbers stand at their places.
-use Rattle.text.specs.Putting.{fits-as, puts-as}
-use Rattle.lines.specs.Putting.{record-line}
+use Rattle.text.specs.Putting.{puts-as}
+use Rattle.lines.specs.Putting.{record-line, record-room}
 use borrow.Author.Needs.{needs}
 use Rattle.lines.proofs.put_record.Statement.{statement}
 use Rattle.lines.proofs.put_record.Tie as tie
@@ -14,6 +14,6 @@ put-record-spec =
     (λ c κs. search needs)
     (λ c. search needs)
     (λ c κs. search needs)
-    (λ c κs. search (fits-as, record-line))
+    (λ c κs. search record-room)
     (λ c. search needs)
     (λ c. search (puts-as, record-line)))

@@ -1,6 +1,6 @@
 -- `lines::put_second` meets its contract: not has no second argument.
-use Rattle.text.specs.Putting.{fits-as, puts-as}
-use Rattle.lines.specs.Putting.{second-none, second-field}
+use Rattle.text.specs.Putting.{puts-as}
+use Rattle.lines.specs.Putting.{second-none, second-field, second-room}
 use borrow.Author.Needs.{needs}
 use Rattle.lines.proofs.put_second.Statement.{statement}
 use Rattle.lines.proofs.put_second.Tie as tie
@@ -12,6 +12,6 @@ put-second-spec =
     (λ c. search second-none)
     (λ c. search needs)
     (λ c. search needs)
-    (λ c κs. search (fits-as, second-field))
+    (λ c κs. search second-room)
     (λ c. search needs)
     (λ c. search (puts-as, second-field)))

@@ -1,6 +1,6 @@
 -- `lines::put_sections` meets its contract: three parts.
 use Rattle.text.specs.Putting.{puts-both}
-use Rattle.lines.specs.Sections.{sectionLines, sections-first, sections-second, sections-last}
+use Rattle.lines.specs.Sections.{sectionLines}
 use borrow.Author.Needs.{needs}
 use Rattle.lines.proofs.put_sections.Statement.{statement}
 use Rattle.lines.proofs.put_sections.Tie as tie
@@ -10,8 +10,8 @@ unfolding sectionLines
 put-sections-spec =
     tie.close
     (tie.spec
-    (λ c κs. (search needs, search sections-first))
-    (λ c κs. (search needs, search sections-second))
-    (λ c κs. (search needs, search sections-last))
+    (λ c κs. (search needs, search needs))
+    (λ c κs. (search needs, search needs))
+    (λ c κs. (search needs, search needs))
     (λ c. search needs)
     (λ c. search puts-both))

@@ -1,5 +1,5 @@
 -- `lines::put_vertex` meets its contract: the answer stands at its place.
-use Rattle.text.specs.Putting.{fits-as, puts-as}
+use Rattle.text.specs.Putting.{puts-as, pair-room}
 use Rattle.lines.specs.Putting.{vertex-line}
 use borrow.Author.Needs.{needs}
 use Rattle.lines.proofs.put_vertex.Statement.{statement}
@@ -12,6 +12,6 @@ put-vertex-spec =
     (λ c κs. search needs)
     (λ c. search needs)
     (λ c. search needs)
-    (λ c κs. search (fits-as, vertex-line))
+    (λ c κs. search (pair-room, vertex-line))
     (λ c. search needs)
     (λ c. search (puts-as, vertex-line)))

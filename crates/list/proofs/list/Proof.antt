@@ -1,6 +1,6 @@
 -- `list::list` meets its contract: nothing, the line of a refusal by 1 to 7, or an accepted file's listing.
 use borrow.Author.Needs.{needs}
-use Rattle.reader.specs.Callers.{reads-accepted}
+use Rattle.reader.specs.Callers.{reads-sound}
 use Rattle.list.specs.Promise.{list-short, list-put, unread-fits, unread-put}
 use Rattle.list.proofs.list.Statement.{statement}
 use Rattle.list.proofs.list.Tie as tie
@@ -14,7 +14,7 @@ list-spec =
     (λ c. search needs)
     (λ c κs. search (unread-fits, needs))
     (λ c. search needs)
-    (λ c κs. (search (reads-accepted, needs), search needs))
+    (λ c κs. (search (reads-sound, needs), search needs))
     (λ c. search needs)
     (λ c. search (unread-put, needs))
     (λ c. search needs)

@@ -1,6 +1,6 @@
 -- `list::put_refused` meets its contract.
 use borrow.Author.Needs.{needs}
-use Rattle.list.specs.Promise.{line-fits, line-put}
+use Rattle.list.specs.Promise.{line-room, line-put}
 use Rattle.list.proofs.put_refused.Statement.{statement}
 use Rattle.list.proofs.put_refused.Tie as tie
 
@@ -12,6 +12,6 @@ put-refused-spec =
     (λ c κs. search needs)
     (λ c. search needs)
     (λ c. search needs)
-    (λ c κs. search (line-fits, needs))
+    (λ c κs. search (line-room, needs))
     (λ c. search needs)
     (λ c. search (line-put, needs)))

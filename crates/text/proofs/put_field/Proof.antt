@@ -1,5 +1,5 @@
 -- `text::put_field` meets its contract: two parts.
-use Rattle.text.specs.Putting.{fits-first, fits-second, puts-both}
+use Rattle.text.specs.Putting.{puts-both}
 use borrow.Author.Needs.{needs}
 use Rattle.text.proofs.put_field.Statement.{statement}
 use Rattle.text.proofs.put_field.Tie as tie
@@ -8,7 +8,7 @@ pub put-field-spec : {M : Type 1} → statement M
 put-field-spec =
     tie.close
     (tie.spec
-    (λ c κs. search fits-first)
-    (λ c κs. search fits-second)
+    (λ c κs. search needs)
+    (λ c κs. search needs)
     (λ c. search needs)
-    (λ c. search puts-both))
+    (λ c. (search puts-both, search needs)))

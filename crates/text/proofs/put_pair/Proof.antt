@@ -1,6 +1,6 @@
 -- `text::put_pair` meets its contract: three parts.
 use Rattle.text.specs.Texts.{pairLine}
-use Rattle.text.specs.Putting.{pair-first, pair-second, pair-ends, puts-both}
+use Rattle.text.specs.Putting.{puts-both}
 use borrow.Author.Needs.{needs}
 use Rattle.text.proofs.put_pair.Statement.{statement}
 use Rattle.text.proofs.put_pair.Tie as tie
@@ -10,9 +10,9 @@ unfolding pairLine
 put-pair-spec =
     tie.close
     (tie.spec
-    (λ c κs. search pair-first)
-    (λ c κs. search pair-second)
+    (λ c κs. search needs)
+    (λ c κs. search needs)
     (λ c. search needs)
-    (λ c κs. search pair-ends)
+    (λ c κs. search needs)
     (λ c. search needs)
     (λ c. search puts-both))
