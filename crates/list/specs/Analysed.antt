@@ -37,7 +37,7 @@ length-accepted : (v : Verdict) (bytes : List ℕ) (n : ℕ) → accepted n ≡ 
 length-accepted fine bytes n e = cc
 length-accepted (fault m p) bytes n e = let z : _≡_ {A = ℕ} 0 1 = cc in absurd (omega arith)
 
--- A buffer that has a whole result, whose lines are the listing.
+-- A buffer that has a whole result, whose lines are the listing, and fit whatever number of at most five digits stands for the switches.
 pub record Listed (s after : List ℕ) : Type 0 where
   pub whole : Whole after
   pub lines : listing s ≡ resultLines (length (networkOf s .switches)) (storedOf after)
