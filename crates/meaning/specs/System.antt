@@ -7,7 +7,7 @@ use Prim.Native.Nat.{ℕ}
 use native.Mathlib.Omega.{arith}
 use borrow.Author.Tests.{eq-eqb}
 use lib.ListN.{length, getD}
-use Rattle.laws.specs.Tests.{both-true}
+use Rattle.laws.specs.Tests.{both-true, either-true}
 use Rattle.links.specs.ListLaws.{upTo-in, upTo-bounds}
 use Rattle.links.specs.Lists.{vertices}
 use Rattle.links.specs.Pairs.{pair-both}
@@ -15,7 +15,7 @@ use Rattle.links.specs.Switches.{pair}
 use Rattle.network.specs.Network.{Network}
 use Rattle.network.specs.declared.Switch.{Switch}
 use Rattle.paths.specs.Paths.{worthIn, Closed, Reached, source, through}
-use Rattle.truth.specs.Booleans.{or-cases, or-right, any-intro, any-elim}
+use Rattle.truth.specs.Booleans.{or-right, any-intro, any-elim}
 use Rattle.truth.specs.Systems.{System, Leads, begins, goes, anyOf}
 use Rattle.meaning.specs.Ranged.{Ranged}
 
@@ -54,7 +54,7 @@ signal-closed value u v w = (open-up, shut)
     back = pair (w .second) (w .first) u v && value (w .back)
 
     open-up : So (there || back) → Closed value w u v
-    open-up h = ⊎-elim (λ a. inl (pair-so (w .first) (w .second) u v _ a)) (λ b. inr (pair-so (w .second) (w .first) u v _ b)) (or-cases there back h)
+    open-up h = ⊎-elim (λ a. inl (pair-so (w .first) (w .second) u v _ a)) (λ b. inr (pair-so (w .second) (w .first) u v _ b)) (either-true there back h)
 
     shut : Closed value w u v → So (there || back)
     shut (inl a) = rw (so-pair (w .first) (w .second) u v _ a)

@@ -5,7 +5,7 @@ use mathlib.Core.Bool.{Bool, true, So, _&&_, _||_, or-false, or-assoc}
 use mathlib.Core.List.{List, [], _∷_, List·Memᴰ, List·Memᴰ·head, List·Memᴰ·tail, Memᴰ·cast, Memᴰ·of-map}
 use Prim.Native.Nat.{ℕ}
 use borrow.Author.Tests.{eq-eqb, ne-eqb}
-use Rattle.laws.specs.Tests.{both-true, bySame}
+use Rattle.laws.specs.Tests.{both-true, either-true, bySame}
 use Rattle.links.specs.Lists.{without}
 use Rattle.links.specs.Links.{Graph, neighbours}
 use Rattle.links.specs.ListLaws.{in-without}
@@ -15,7 +15,7 @@ use Rattle.sheet.specs.Perform.{setCell}
 use Rattle.sheet.specs.declared.Cell.{Cell}
 use Rattle.sheet.specs.declared.Cell.the-variants.{Start, Label}
 use Rattle.elimination.specs.Plan.{backward}
-use Rattle.truth.specs.Booleans.{or-cases, or-right, any-intro, any-elim}
+use Rattle.truth.specs.Booleans.{or-right, any-intro, any-elim}
 use Rattle.truth.specs.Systems.{System, Leads, anyOf}
 use Rattle.truth.specs.Solutions.{leads-in}
 use Rattle.truth.specs.Carry.{truths, given, carry, systemIn}
@@ -53,7 +53,7 @@ module _ (g : Graph) (s : Symmetric g) (vs : List ℕ) (p : ℕ) (n : List·Mem�
   -- The sum at the pivot says what the system says there.
   at-pivot : So (t (Start p) || anyOf term ns) ↔ AtPivot p (systemIn g t) vs
   unfolding term Symmetric
-  at-pivot = (λ h. fore (or-cases (t (Start p)) (anyOf term ns) h), aft)
+  at-pivot = (λ h. fore (either-true (t (Start p)) (anyOf term ns) h), aft)
     where
       fore : So (t (Start p)) ⊎ So (anyOf term ns) → AtPivot p (systemIn g t) vs
       fore (inl h) = inl h

@@ -1,16 +1,12 @@
 -- What or, and a sum over a list, say.
 use mathlib.Core.Path.{_≡_, refl, sym}
-use mathlib.Core.Logic.{_⊎_, inl, inr, ⊎-elim}
+use mathlib.Core.Logic.{⊎-elim}
 use mathlib.Core.Bool.{Bool, true, false, So, false≢true, _||_}
 use mathlib.Core.List.{List, [], _∷_, List·Memᴰ, List·Memᴰ·head, List·Memᴰ·tail}
+use Rattle.laws.specs.Tests.{either-true}
 use Rattle.truth.specs.Systems.{anyOf}
 
--- A true sum has a true part,
-pub or-cases : (a b : Bool) → So (a || b) → So a ⊎ So b
-or-cases true b h = inl refl
-or-cases false b h = inr h
-
--- and is true where its second part is.
+-- A sum is true where its second part is.
 pub or-right : (a b : Bool) → So b → So (a || b)
 or-right true b h = refl
 or-right false b h = h
@@ -33,4 +29,4 @@ module _ {A : Type 0} (f : A → Bool) where
   unfolding anyOf
   any-elim [] h = absurd (false≢true h)
   any-elim (y ∷ ys) h =
-      ⊎-elim (λ t. (y, List·Memᴰ·head refl, t)) (λ t. let r = any-elim ys t in (r .0, List·Memᴰ·tail (r .1), r .2)) (or-cases (f y) (anyOf f ys) h)
+      ⊎-elim (λ t. (y, List·Memᴰ·head refl, t)) (λ t. let r = any-elim ys t in (r .0, List·Memᴰ·tail (r .1), r .2)) (either-true (f y) (anyOf f ys) h)

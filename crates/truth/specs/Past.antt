@@ -4,10 +4,10 @@ use mathlib.Core.Logic.{_≢_, _⊎_, inl, inr, ⊎-elim}
 use mathlib.Core.Bool.{So, _&&_, _||_}
 use mathlib.Core.List.{List, List·Memᴰ}
 use Prim.Native.Nat.{ℕ}
-use Rattle.laws.specs.Tests.{both-true, bySame}
+use Rattle.laws.specs.Tests.{both-true, either-true, bySame}
 use Rattle.links.specs.Lists.{without}
 use Rattle.links.specs.ListLaws.{without-in, in-without}
-use Rattle.truth.specs.Booleans.{or-cases, or-right}
+use Rattle.truth.specs.Booleans.{or-right}
 use Rattle.truth.specs.Systems.{System, Leads, begins, goes}
 use Rattle.truth.specs.Solutions.{leads-in}
 
@@ -34,12 +34,12 @@ module _ (p : ℕ) (s : System) (vs : List ℕ) where
       let k = without-in p vs m .0 in
       ⊎-elim (begins k)
       (λ t. let parts = both-true (s .starts p) (s .labels p v) t in goes (begins n (parts .0)) k (parts .1))
-      (or-cases (s .starts v) (s .starts p && s .labels p v) h)
+      (either-true (s .starts v) (s .starts p && s .labels p v) h)
   past-sound n (goes {u} {v} r m h) =
       let k = without-in p vs m .0 in
       ⊎-elim (goes (past-sound n r) k)
       (λ t. let parts = both-true (s .labels u p) (s .labels p v) t in goes (goes (past-sound n r) n (parts .0)) k (parts .1))
-      (or-cases (s .labels u v) (s .labels u p && s .labels p v) h)
+      (either-true (s .labels u v) (s .labels u p && s .labels p v) h)
 
   -- So it does to the pivot.
   pub pivot-sound : List·Memᴰ p vs → AtPivot → Leads s vs p

@@ -4,8 +4,8 @@ use mathlib.Core.Logic.{_↔_, ⊎-elim}
 use mathlib.Core.Bool.{Bool, So, _&&_, _||_}
 use mathlib.Core.List.{List, List·Memᴰ}
 use Prim.Native.Nat.{ℕ}
-use Rattle.laws.specs.Tests.{both-true}
-use Rattle.truth.specs.Booleans.{or-cases, or-right, same-truth, any-intro, any-elim}
+use Rattle.laws.specs.Tests.{both-true, either-true}
+use Rattle.truth.specs.Booleans.{or-right, same-truth, any-intro, any-elim}
 use Rattle.truth.specs.Systems.{System, Leads, begins, goes, anyOf, Satisfies, Solution}
 
 -- Paths within vs lead to vertices of vs.
@@ -44,7 +44,7 @@ module _ (s : System) (vs : List ℕ) where
           (λ k. let w = any-elim (term v) vs k in
           let parts = both-true (x (w .0)) (s .labels (w .0) v) (w .2) in
           goes (right (w .0) (w .1) .0 (parts .0)) m (parts .1))
-          (or-cases (s .starts v) (anyOf (term v) vs) t)
+          (either-true (s .starts v) (anyOf (term v) vs) t)
 
   -- Two solutions are the same on vs.
   pub solution-one : (x y : ℕ → Bool) → Solution s vs x → Solution s vs y → (v : ℕ) → List·Memᴰ v vs → x v ≡ y v
