@@ -1,4 +1,4 @@
--- K1 to K9, F1 to F4, example L and a triangle, as one table under a single claim. Files and results are literal bytes.
+-- K1 to K9, F1 to F4, example L, a triangle and absorption, as one table under a single claim. Files and results are literal bytes.
 use mathlib.Core.Path.{_≡_, refl, ap₂}
 use mathlib.Core.Bool.{Bool, true, false, _&&_, false≢true}
 use mathlib.Core.List.{List, [], _∷_, _++_, map, flatMap, List·Memᴰ, List·Memᴰ·head, List·Memᴰ·tail}
@@ -82,12 +82,12 @@ fileL =
     ∷ 2 ∷ 0 ∷ 0 ∷ 0 ∷ 1 ∷ 0 ∷ 2 ∷ 0 ∷ 2 ∷ 0 ∷ 1 ∷ 0 ∷ 2 ∷ 0 ∷ 3 ∷ 0 ∷ 3 ∷ 0
     ∷ []
 
--- Its result: coils; and 2 3, and 3 4, or 2 5, and 2 6; formulas 1, 6, 4; pivots 0, 1, 2 of degree 1, 1, 0; given formulas 0, joins 0, work 8.
+-- Its result: coils; and 2 3; formulas 1, 2, 4; pivots 0, 1, 2 of degree 1, 1, 0; given formulas 0, joins 0, work 8.
 abbrev pub resultL : List ℕ
 resultL =
     2 ∷ 0 ∷ 7 ∷ 0 ∷ 9 ∷ 0
-    ∷ 4 ∷ 0 ∷ 1 ∷ 0 ∷ 2 ∷ 0 ∷ 3 ∷ 0 ∷ 1 ∷ 0 ∷ 3 ∷ 0 ∷ 4 ∷ 0 ∷ 2 ∷ 0 ∷ 2 ∷ 0 ∷ 5 ∷ 0 ∷ 1 ∷ 0 ∷ 2 ∷ 0 ∷ 6 ∷ 0
-    ∷ 3 ∷ 0 ∷ 1 ∷ 0 ∷ 6 ∷ 0 ∷ 4 ∷ 0
+    ∷ 1 ∷ 0 ∷ 1 ∷ 0 ∷ 2 ∷ 0 ∷ 3 ∷ 0
+    ∷ 3 ∷ 0 ∷ 1 ∷ 0 ∷ 2 ∷ 0 ∷ 4 ∷ 0
     ∷ 3 ∷ 0 ∷ 0 ∷ 0 ∷ 1 ∷ 0 ∷ 1 ∷ 0 ∷ 1 ∷ 0 ∷ 2 ∷ 0 ∷ 0 ∷ 0
     ∷ 3 ∷ 0 ∷ 0 ∷ 0 ∷ 0 ∷ 0 ∷ 8 ∷ 0
     ∷ []
@@ -114,12 +114,35 @@ resultT =
     ∷ 3 ∷ 0 ∷ 1 ∷ 0 ∷ 2 ∷ 0 ∷ 16 ∷ 0
     ∷ []
 
+-- Example A, absorption: coils 7 and 9; twelve given formulas, each the start of a vertex; no switches. They are and 2 3, or 2 3; or 2 4, or 4 3, and
+-- 5 2, and 3 5; or 2 5, and 4 3; not 4, and 2 12; or 3 13, or 14 2.
+abbrev pub fileA : List ℕ
+fileA =
+    2 ∷ 0 ∷ 7 ∷ 0 ∷ 9 ∷ 0
+    ∷ 12 ∷ 0 ∷ 1 ∷ 0 ∷ 2 ∷ 0 ∷ 3 ∷ 0 ∷ 2 ∷ 0 ∷ 2 ∷ 0 ∷ 3 ∷ 0 ∷ 2 ∷ 0 ∷ 2 ∷ 0 ∷ 4 ∷ 0 ∷ 2 ∷ 0 ∷ 4 ∷ 0 ∷ 3 ∷ 0 ∷ 1 ∷ 0 ∷ 5 ∷ 0 ∷ 2 ∷ 0 ∷ 1 ∷ 0 ∷ 3 ∷ 0 ∷ 5 ∷ 0
+    ∷ 2 ∷ 0 ∷ 2 ∷ 0 ∷ 5 ∷ 0 ∷ 1 ∷ 0 ∷ 4 ∷ 0 ∷ 3 ∷ 0 ∷ 3 ∷ 0 ∷ 4 ∷ 0 ∷ 0 ∷ 0 ∷ 1 ∷ 0 ∷ 2 ∷ 0 ∷ 12 ∷ 0 ∷ 2 ∷ 0 ∷ 3 ∷ 0 ∷ 13 ∷ 0 ∷ 2 ∷ 0 ∷ 14 ∷ 0 ∷ 2 ∷ 0
+    ∷ 12 ∷ 0 ∷ 4 ∷ 0 ∷ 5 ∷ 0 ∷ 6 ∷ 0 ∷ 7 ∷ 0 ∷ 8 ∷ 0 ∷ 9 ∷ 0 ∷ 10 ∷ 0 ∷ 11 ∷ 0 ∷ 12 ∷ 0 ∷ 13 ∷ 0 ∷ 14 ∷ 0 ∷ 15 ∷ 0
+    ∷ 0 ∷ 0
+    ∷ []
+
+-- Its result, worked out by hand. The first two are 4 and 5. 4 holds 2 and 3 as its first and second argument, and so does 5: the four after them are
+-- 2, 3, 2 and 3, and the next two 5 and 4 themselves. not 4 is 6; and 2 6 is 7, for a not record is not looked at. or 3 7 is 8, and or 2 8 is 9, for
+-- 8 holds 3 and 7, and 2 stands one level deeper.
+abbrev pub resultA : List ℕ
+resultA =
+    2 ∷ 0 ∷ 7 ∷ 0 ∷ 9 ∷ 0
+    ∷ 6 ∷ 0 ∷ 1 ∷ 0 ∷ 2 ∷ 0 ∷ 3 ∷ 0 ∷ 2 ∷ 0 ∷ 2 ∷ 0 ∷ 3 ∷ 0 ∷ 3 ∷ 0 ∷ 4 ∷ 0 ∷ 0 ∷ 0 ∷ 1 ∷ 0 ∷ 2 ∷ 0 ∷ 6 ∷ 0 ∷ 2 ∷ 0 ∷ 3 ∷ 0 ∷ 7 ∷ 0 ∷ 2 ∷ 0 ∷ 2 ∷ 0 ∷ 8 ∷ 0
+    ∷ 12 ∷ 0 ∷ 4 ∷ 0 ∷ 5 ∷ 0 ∷ 2 ∷ 0 ∷ 3 ∷ 0 ∷ 2 ∷ 0 ∷ 3 ∷ 0 ∷ 5 ∷ 0 ∷ 4 ∷ 0 ∷ 6 ∷ 0 ∷ 7 ∷ 0 ∷ 8 ∷ 0 ∷ 9 ∷ 0
+    ∷ 12 ∷ 0 ∷ 0 ∷ 0 ∷ 0 ∷ 0 ∷ 1 ∷ 0 ∷ 0 ∷ 0 ∷ 2 ∷ 0 ∷ 0 ∷ 0 ∷ 3 ∷ 0 ∷ 0 ∷ 0 ∷ 4 ∷ 0 ∷ 0 ∷ 0 ∷ 5 ∷ 0 ∷ 0 ∷ 0 ∷ 6 ∷ 0 ∷ 0 ∷ 0 ∷ 7 ∷ 0 ∷ 0 ∷ 0 ∷ 8 ∷ 0 ∷ 0 ∷ 0 ∷ 9 ∷ 0 ∷ 0 ∷ 0 ∷ 10 ∷ 0 ∷ 0 ∷ 0 ∷ 11 ∷ 0 ∷ 0 ∷ 0
+    ∷ 3 ∷ 0 ∷ 12 ∷ 0 ∷ 0 ∷ 0 ∷ 0 ∷ 0
+    ∷ []
+
 -- The listing of L, line by line.
 abbrev pub listingL : List ℕ
 listingL =
-    ascii "vertices 3 switches 2 joins 0 work 8 nodes 4\n"
+    ascii "vertices 3 switches 2 joins 0 work 8 nodes 1\n"
     ++ (ascii "pivot 0 degree 1\npivot 1 degree 1\npivot 2 degree 0\n"
-    ++ (ascii "f 4 and 2 3\nf 5 and 3 4\nf 6 or 2 5\nf 7 and 2 6\n" ++ ascii "vertex 0 formula 1\nvertex 1 formula 6\nvertex 2 formula 4\n"))
+    ++ (ascii "f 4 and 2 3\n" ++ ascii "vertex 0 formula 1\nvertex 1 formula 2\nvertex 2 formula 4\n"))
 
 -- What the definitions give, beside what the outline says.
 abbrev pub table : List (List ℕ × List ℕ)
@@ -151,10 +174,11 @@ table =
     ∷ (said (analysis edition (replicate 9 0) 65536), 7 ∷ 8 ∷ [])
     -- F4 first count 201: 2 at 0
     ∷ (said (analysis edition (201 ∷ 0 ∷ []) 65536), 2 ∷ 0 ∷ [])
-    -- L and T, byte by byte; for T just the room that it needs, 16 + 6 + 6 · 19 + 18, and one byte less
+    -- L, T and A, byte by byte; for T just the room that it needs, 16 + 6 + 6 · 19 + 18, and one byte less
     ∷ (said (analysis edition fileL 65536), resultL)
     ∷ (said (analysis edition fileT 154), resultT)
     ∷ (said (analysis edition fileT 153), 9 ∷ 0 ∷ [])
+    ∷ (said (analysis edition fileA 65536), resultA)
     -- L: vertex 1 is joined to the source where coil 7 is on, vertex 2 where both are
     ∷ (truthsIn resultL 3 (0 ∷ 0 ∷ []), 1 ∷ 0 ∷ 0 ∷ [])
     ∷ (truthsIn resultL 3 (1 ∷ 0 ∷ []), 1 ∷ 1 ∷ 0 ∷ [])
@@ -200,7 +224,7 @@ unfolding
     numbers.wordAt numbers.bytesOf
     networks.entriesOf networks.networkOf
     faults.cutFault faults.countFault faults.coilFault faults.kindFault faults.referenceFault faults.endFault faults.trailingFault faults.secondBelow faults.givenFault faults.vertexFault faults.switchFault faults.entriesFault faults.sectionFault faults.networkFault
-    making.indexOf making.named making.enter making.negate making.combine making.make
+    making.indexOf making.named making.enter making.negate making.relate making.combine making.make
     givens.translate givens.passOne givens.pass
     switches.link switches.joinsAt switches.linksFrom switches.joinsFrom switches.linksOf switches.joinsOf
     asks.sameCell asks.work

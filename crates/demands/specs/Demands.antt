@@ -2,9 +2,9 @@
 use mathlib.Core.Path.{_≡_}
 use mathlib.Core.Logic.{_↔_}
 use mathlib.Core.Bool.{So}
-use mathlib.Core.List.{List, _++_, List·Memᴰ}
+use mathlib.Core.List.{List, [], _∷_, _++_, List·Memᴰ}
 use Prim.Native.Nat.{ℕ, _+_, _*_, _<_, _≤_}
-use lib.ListN.{length, drop}
+use lib.ListN.{length, getD, take, drop}
 use Rattle.analyse.specs.Promise as analyse
 use Rattle.analyse.specs.Unique as analysed
 use Rattle.analysis.specs.Analysis.{analysisFault, analysis}
@@ -17,6 +17,7 @@ use Rattle.direct.specs.Unique as answered
 use Rattle.elimination.specs.Plan.{workOf}
 use Rattle.form.specs.Refusals.{accepted, replyOf}
 use Rattle.form.specs.declared.Reply.{Reply}
+use Rattle.formula.specs.Make.{none, make}
 use Rattle.links.specs.Links.{Graph, Step, order, steps}
 use Rattle.links.specs.Lists.{vertices}
 use Rattle.links.specs.Switches.{linksOf, joinsOf}
@@ -93,6 +94,12 @@ module _ (s before after : List ℕ) (r : Reply) (call : analyse.Promise s befor
     -- Records never exceed given formulas plus joins plus work. Ruled out: a record that nothing asked for.
     pub records-few : length (stored .records) ≤ givensFigure stored + joinsFigure stored + workFigure stored
     records-few = analyse.told-answered call written is .figures .few
+
+    -- Making a stored record out of those before it adds it: no rule, absorption among them, gives a reference that is there. Ruled out: a record that
+    -- the rules spare, such as coil 7 or (coil 7 and coil 9).
+    pub records-needed : (k : ℕ) → k < length (stored .records) → let x = getD (stored .records) k none in
+        make (length (stored .variables)) (x .kind) (x .first) (x .second) (take k (stored .records)) .added ≡ x ∷ []
+    records-needed = analyse.told-answered call written is .figures .needed
 
     -- A network is built from nothing by adding terminals, each linked to none, to one, or to two that are then linked to each other (that link kept
     -- or dropped), exactly when no reported pivot has over two neighbours left, and then costs at most twelve a vertex. Ruled out: pivots out of turn.

@@ -57,10 +57,9 @@ module _ (r : Stored) (limited : Limited r) where
       (λ k h. pivot-most (0 + k) _ (omega (arith, limited .vertex k h)) (omega (arith, limited .degree k h)))
 
   records-most : length (lines recordLine (formula (length (r .variables)) 0) (r .records)) ≤ 24 * length (r .records)
-  unfolding Orderly
   records-most =
       lines-most recordLine 24 none (formula (length (r .variables)) 0) (r .records)
-      (λ k h. let earlier = limited .orderly k h in record-most _ _ (omega arith) (omega arith) (omega arith))
+      (λ k h. let earlier = limited .orderly .earlier k h in record-most _ _ (omega arith) (omega arith) (omega arith))
 
   answers-most : length (lines vertexLine 0 (r .answers)) ≤ 27 * length (r .answers)
   answers-most =

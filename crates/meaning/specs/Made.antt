@@ -1,6 +1,7 @@
 -- What records mean under a setting: earlier references keep their worth, and what is made is worth the operation on its arguments' worths.
 use mathlib.Core.Path.{_≡_, refl, sym, ap, _∙_}
-use mathlib.Core.Bool.{Bool, true, false, not, cond, _&&_, Bool·not-not, false≢true}
+use mathlib.Core.Logic.{⊎-elim}
+use mathlib.Core.Bool.{Bool, true, false, not, cond, _&&_, _||_, Bool·not-not, false≢true}
 use mathlib.Core.List.{List, [], _∷_, _++_}
 use Prim.Native.Nat.{ℕ, suc, _-_, _≤_, _<_}
 use native.Mathlib.Omega.{arith}
@@ -8,13 +9,13 @@ use borrow.Author.Tests.{eqb-true, ltb-true, ltb-false}
 use lib.Dec.{eqb, leb, ltb}
 use lib.ListN.{length, getD, take, drop, take-append-drop}
 use lib.Seq.{take-suc, length-take-le}
-use Rattle.laws.specs.Tests.{both-true, byChoice}
+use Rattle.laws.specs.Tests.{both-true, either-true, byChoice}
 use Rattle.form.specs.References.{kindOr, kindNot, constantFalse, constantTrue, formula}
 use Rattle.form.specs.declared.Record.{Record}
-use Rattle.formula.specs.Make.{Outcome, old, same, indexOf, none, named, notOf, neutral, deciding, enter, negate, combine, make}
-use Rattle.formula.specs.MakeLaws.{Orderly, named-first}
+use Rattle.formula.specs.Make.{Outcome, old, same, indexOf, none, named, notOf, andOr, holds, absorbed, neutral, deciding, enter, negate, relate, combine, make}
+use Rattle.formula.specs.MakeLaws.{Orderly, named-first, and-or-kind, absorbed-is}
 use Rattle.formula.specs.Worth.{operate, leaves, evaluate, worth}
-use Rattle.formula.specs.WorthLaws.{operate-not, operate-neutral, operate-deciding, operate-opposite, operate-same, operate-turned}
+use Rattle.formula.specs.WorthLaws.{operate-not, operate-neutral, operate-deciding, operate-opposite, operate-same, operate-turned, operate-again, operate-absorbed}
 use Rattle.formula.specs.WorthLaws.{value-next, leaves-length, evaluate-length, evaluate-append, evaluate-kept}
 
 -- A record that is found is the one that was sought.
@@ -73,12 +74,11 @@ module _ (setting : List ℕ) (p : ℕ) (sized : length setting ≡ p) where
         ≡ operate (getD records k none .kind)
         (worth setting records (getD records k none .first))
         (worth setting records (getD records k none .second))
-    unfolding Orderly
     worth-record k h =
         let x = getD records k none in
         let l : length (take k records) ≡ k = length-take-le k records (omega arith) in
         let m : length (take (suc k) records) ≡ suc k = length-take-le (suc k) records (omega arith) in
-        let q = orderly k h in
+        let q = orderly .earlier k h in
         rw (front (suc k) (formula p k) (omega arith), front k (x .first) (omega (arith, q .first)), front k (x .second) (omega (arith, q .second)))
         (rw (take-suc records k none h) (rw l at (worth-next (take k records) x)))
       where
@@ -102,17 +102,38 @@ module _ (setting : List ℕ) (p : ℕ) (sized : length setting ≡ p) where
         worth-old records (formula p (indexOf records x)) (omega arith) ∙ (rw (found-is records x h) at (worth-record (indexOf records x) h)))
         (λ t. worth-next records x)
 
-    -- A not record is worth the opposite of its argument.
-    named-not : (b : ℕ) → b < formula p (length records) → eqb (named p b records .kind) kindNot ≡ true
-        → value b ≡ not (value (named p b records .first))
+    -- What a reference names, unless it is a constant or a variable, is worth its operation.
+    named-worth : (b : ℕ) → b < formula p (length records) → eqb (named p b records .kind) 0 ≡ false
+        → value b ≡ operate (named p b records .kind) (value (named p b records .first)) (value (named p b records .second))
     unfolding named
-    named-not b h =
-        byChoice (λ (x : Record). eqb (x .kind) kindNot ≡ true → value b ≡ not (value (x .first))) (ltb b (formula p 0)) _ _
-        (λ l t. absurd (false≢true t))
+    named-worth b h =
+        byChoice (λ (x : Record). eqb (x .kind) 0 ≡ false → value b ≡ operate (x .kind) (value (x .first)) (value (x .second)))
+        (ltb b (formula p 0)) _ _
+        (λ l t. absurd (false≢true (sym t)))
         (λ l t.
         let g : formula p 0 ≤ b = ltb-false _ _ l in
         let e : formula p (b - formula p 0) ≡ b = omega arith in
-        (rw e at (worth-record (b - formula p 0) (omega arith))) ∙ operate-not _ t _ _)
+        rw e at (worth-record (b - formula p 0) (omega arith)))
+
+    -- A not record is worth the opposite of its argument.
+    named-not : (b : ℕ) → b < formula p (length records) → eqb (named p b records .kind) kindNot ≡ true
+        → value b ≡ not (value (named p b records .first))
+    named-not b h t =
+        let k = eqb-true (named p b records .kind) kindNot t in
+        named-worth b h (rw k) ∙ operate-not (named p b records .kind) t _ _
+
+    -- A record that holds a is worth its operation on a and on its other argument.
+    named-holds : (a b : ℕ) → b < formula p (length records) → holds a (named p b records) ≡ true → let x = named p b records in
+        (c : ℕ) × (value b ≡ operate (x .kind) (value a) (value c))
+    named-holds a b h t =
+        let x = named p b records in
+        let q = both-true (andOr x) (eqb (x .first) a || eqb (x .second) a) t in
+        let k = and-or-kind x (q .0) in
+        let is = named-worth b h (k .0) in
+        ⊎-elim
+        (λ e. (x .second, is ∙ rw (eqb-true (x .first) a e)))
+        (λ e. (x .first, is ∙ operate-turned (x .kind) (k .1) _ _ ∙ rw (eqb-true (x .second) a e)))
+        (either-true (eqb (x .first) a) (eqb (x .second) a) (q .1))
 
     is-negated : (a : ℕ) → a < formula p (length records) → Is (not (value a)) (negate p a records)
     unfolding negate
@@ -138,6 +159,31 @@ module _ (setting : List ℕ) (p : ℕ) (sized : length setting ≡ p) where
     worth-neutral true = worth-false records
     worth-neutral false = worth-true records
 
+    is-absorbed : (kind a b : ℕ) → eqb kind kindNot ≡ false → a < formula p (length records) → b < formula p (length records)
+        → let x = named p b records in holds a x ≡ true → Is (operate kind (value a) (value b)) (old (absorbed kind a b x))
+    is-absorbed kind a b plain ha hb t =
+        let x = named p b records in
+        let inner = and-or-kind x (both-true (andOr x) (eqb (x .first) a || eqb (x .second) a) t .0) .1 in
+        let q = named-holds a b hb t in
+        worth-old records (absorbed kind a b x) (absorbed-is (λ i. i < formula p (length records)) kind a b x (λ _. hb) (λ _. ha))
+        ∙ absorbed-is (λ i. value i ≡ operate kind (value a) (value b)) kind a b x
+        (λ e. rw (q .1) (sym (operate-again kind plain (x .kind) inner e (value a) (value (q .0)))))
+        (λ e. rw (q .1) (sym (operate-absorbed kind plain (x .kind) inner e (value a) (value (q .0)))))
+
+    is-related : (kind a b : ℕ) → eqb kind kindNot ≡ false → a < formula p (length records) → b < formula p (length records)
+        → Is (operate kind (value a) (value b)) (relate p kind a b records)
+    unfolding relate
+    is-related kind a b plain ha hb =
+        let w = operate kind (value a) (value b) in
+        byChoice (Is w) (notOf a (named p b records)) _ _
+        (λ t.
+        let q = both-true (eqb (named p b records .kind) kindNot) (eqb (named p b records .first) a) t in
+        rw (named-not b hb (q .0), eqb-true _ a (q .1), operate-opposite kind plain)
+        (worth-old records (deciding kind) (deciding-there (eqb kind kindOr)) ∙ worth-deciding (eqb kind kindOr)))
+        (λ _. byChoice (Is w) (holds a (named p b records)) _ _
+        (λ t. is-absorbed kind a b plain ha hb t)
+        (λ _. is-entered (record { kind = kind; first = a; second = b })))
+
     is-combined : (kind a b : ℕ) → eqb kind kindNot ≡ false → a < formula p (length records) → b < formula p (length records)
         → Is (operate kind (value a) (value b)) (combine p kind a b records)
     unfolding combine
@@ -149,12 +195,7 @@ module _ (setting : List ℕ) (p : ℕ) (sized : length setting ≡ p) where
         (λ t. worth-old records a ha ∙ rw (eqb-true a (deciding kind) t, worth-deciding (eqb kind kindOr), operate-deciding kind plain))
         (λ _. byChoice (Is w) (eqb a b) _ _
         (λ t. rw (← eqb-true a b t, operate-same kind plain) (worth-old records a ha))
-        (λ _. byChoice (Is w) (notOf a (named p b records)) _ _
-        (λ t.
-        let q = both-true (eqb (named p b records .kind) kindNot) (eqb (named p b records .first) a) t in
-        rw (named-not b hb (q .0), eqb-true _ a (q .1), operate-opposite kind plain)
-        (worth-old records (deciding kind) (deciding-there (eqb kind kindOr)) ∙ worth-deciding (eqb kind kindOr)))
-        (λ _. is-entered (record { kind = kind; first = a; second = b })))))
+        (λ _. is-related kind a b plain ha hb)))
 
     -- What is made is worth the operation.
     pub worth-made :

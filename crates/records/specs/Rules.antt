@@ -5,14 +5,40 @@ use mathlib.Core.List.{List, [], _∷_, append-nil}
 use native.Mathlib.Omega.{arith}
 use mathlib.Core.Bool.{Bool, true, false}
 use borrow.Author.Tests.{eq-eqb, ne-eqb, lt-ltb, le-ltb, le-leb, lt-leb}
+use lib.Dec.{eqb}
 use lib.ListN.{length}
 use Rattle.form.specs.References.{formula}
 use Rattle.form.specs.declared.Record.{Record}
 use Rattle.records.specs.declared.Made.{Made}
 use Rattle.records.specs.Bytes.{recordsIn, putRecord}
 use Rattle.records.specs.Laws.{length-records, records-more, put-none, put-one}
-use Rattle.formula.specs.Make.{old, indexOf, named, notOf, neutral, deciding, enter, negate, combine, make}
+use Rattle.formula.specs.Make.{old, indexOf, named, notOf, andOr, holds, absorbed, neutral, deciding, enter, negate, relate, combine, make}
 use Rattle.records.specs.Gives.{Gives, Makes}
+
+-- Whether a record holds a,
+module _ (a : ℕ) (x : Record) (t : Bool) (is : t ≡ andOr x) where
+  pub holds-none : t ≡ false → false ≡ holds a x
+  holds-none e = rw (← is, e)
+
+  pub holds-first : t ≡ true → x .first ≡ a → true ≡ holds a x
+  holds-first e f = rw (← is, e, eq-eqb (x .first) a f)
+
+  pub holds-second : t ≡ true → (x .first ≡ a → ⊥) → eqb (x .second) a ≡ holds a x
+  holds-second e f = rw (← is, e, ne-eqb (x .first) a f)
+
+-- and what the two give then.
+module _ (kind a b : ℕ) (x : Record) where
+  pub or-or : kind ≡ 2 → x .kind ≡ 2 → b ≡ absorbed kind a b x
+  or-or k o = rw (k, o)
+
+  pub or-and : kind ≡ 2 → (x .kind ≡ 2 → ⊥) → a ≡ absorbed kind a b x
+  or-and k o = rw (k, ne-eqb (x .kind) 2 o)
+
+  pub and-or : (kind ≡ 2 → ⊥) → x .kind ≡ 2 → a ≡ absorbed kind a b x
+  and-or k o = rw (ne-eqb kind 2 k, o)
+
+  pub and-and : (kind ≡ 2 → ⊥) → (x .kind ≡ 2 → ⊥) → b ≡ absorbed kind a b x
+  and-and k o = rw (ne-eqb kind 2 k, ne-eqb (x .kind) 2 o)
 
 module _ (base n : ℕ) (s : List ℕ) (m : Made) where
   -- Nothing is added,
@@ -70,7 +96,23 @@ module _ (base n : ℕ) (s : List ℕ) (m : Made) where
       unfolding negate
       not-new t k g = rw (ne-eqb a 0 z, ne-eqb a 1 o, ← read, ne-eqb (x .kind) 3 k) g
 
-  -- Rules 2 to 4.
+  -- Rule 4, and absorption.
+  module _ (p kind a b : ℕ) (x : Record) (read : x ≡ named p b (recordsIn s base n)) (y : Bool) (is-y : y ≡ notOf a x) where
+    pub opposes : y ≡ true → m .reference .number ≡ deciding kind → m .count ≡ n → Makes (relate p kind a b) base n s s m
+    unfolding relate
+    opposes t e f = rw (← read, ← is-y, t) (gives-old (deciding kind) e f)
+
+    module _ (not-y : y ≡ false) (z : Bool) (is-z : z ≡ holds a x) where
+      pub absorbs : z ≡ true → m .reference .number ≡ absorbed kind a b x → m .count ≡ n → Makes (relate p kind a b) base n s s m
+      unfolding relate
+      absorbs t e f = rw (← read, ← is-y, not-y, ← is-z, t) (gives-old (absorbed kind a b x) e f)
+
+      pub joins : (t : List ℕ) → z ≡ false → Makes (enter p (record { kind = kind; first = a; second = b })) base n s t m
+          → Makes (relate p kind a b) base n s t m
+      unfolding relate
+      joins t k g = rw (← read, ← is-y, not-y, ← is-z, k) g
+
+  -- Rules 2 and 3.
   module _ (p kind a b u : ℕ) (is-u : u ≡ neutral kind) where
     pub leaves : a ≡ u → m .reference .number ≡ b → m .count ≡ n → Makes (combine p kind a b) base n s s m
     unfolding combine
@@ -86,16 +128,9 @@ module _ (base n : ℕ) (s : List ℕ) (m : Made) where
         unfolding combine
         equals t e f = rw (← is-u, ← is-v, ne-eqb a u not-u, ne-eqb a v not-v, eq-eqb a b t) (gives-old a e f)
 
-        module _ (not-b : a ≡ b → ⊥) (x : Record) (read : x ≡ named p b (recordsIn s base n)) (y : Bool) (is-y : y ≡ notOf a x) where
-          pub opposes : y ≡ true → m .reference .number ≡ v → m .count ≡ n → Makes (combine p kind a b) base n s s m
-          unfolding combine
-          opposes t e f =
-              rw (← is-u, ← is-v, ne-eqb a u not-u, ne-eqb a v not-v, ne-eqb a b not-b, ← read, ← is-y, t) (gives-old v e f)
-
-          pub joins : (t : List ℕ) → y ≡ false → Makes (enter p (record { kind = kind; first = a; second = b })) base n s t m
-              → Makes (combine p kind a b) base n s t m
-          unfolding combine
-          joins t k g = rw (← is-u, ← is-v, ne-eqb a u not-u, ne-eqb a v not-v, ne-eqb a b not-b, ← read, ← is-y, k) g
+        pub relates : (t : List ℕ) → (a ≡ b → ⊥) → Makes (relate p kind a b) base n s t m → Makes (combine p kind a b) base n s t m
+        unfolding combine
+        relates t not-b g = rw (← is-u, ← is-v, ne-eqb a u not-u, ne-eqb a v not-v, ne-eqb a b not-b) g
 
   module _ (p kind a b : ℕ) where
     -- Rule 1.

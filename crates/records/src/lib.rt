@@ -3,7 +3,7 @@ ghost use mathlib.Core.Path.{_≡_};
 ghost use Prim.Native.Nat.{_+_, _*_, _<_, _≤_};
 ghost use lib.ListN.{length};
 ghost use Rattle.form.specs.References.{formula};
-ghost use Rattle.formula.specs.Make.{same, notOf, neutral, deciding, indexOf, named, enter, negate, combine, make};
+ghost use Rattle.formula.specs.Make.{same, notOf, andOr, holds, absorbed, neutral, deciding, indexOf, named, enter, negate, relate, combine, make};
 ghost use Rattle.network.specs.Network.{givenAt};
 ghost use Rattle.records.specs.Bytes.{putRecord, recordsIn};
 ghost use Rattle.records.specs.Gives.{Room, Makes};
@@ -176,7 +176,86 @@ fn is_not_of(a: Reference, x: Record) -> bool
     x.first == a.number
 }
 
-// Rules 2 to 4: an and or an or, the smaller argument first.
+// Whether a record is an and or an or record.
+fn is_and_or(x: Record) -> bool
+    ensures { λ r. ⌜ r ≡ andOr x ⌝ }
+{
+    if x.kind == AND {
+        return true;
+    }
+    x.kind == OR
+}
+
+// Whether a record is an and or an or record that holds a, as either argument.
+fn holds(a: Reference, x: Record) -> bool
+    ensures { λ r. ⌜ r ≡ holds (a .number) x ⌝ }
+{
+    if is_and_or(x) {
+        if x.first == a.number {
+            return true;
+        }
+        return x.second == a.number;
+    }
+    false
+}
+
+// What a and b give where b is the record x, which holds a: the record where both are or, or neither is, and else a.
+fn absorbed(kind: u16, a: Reference, b: Reference, x: Record) -> Reference
+    ensures { λ r. ⌜ r .number ≡ absorbed kind (a .number) (b .number) x ⌝ }
+{
+    if kind == OR {
+        if x.kind == OR {
+            return b;
+        }
+        return a;
+    }
+    if x.kind == OR {
+        return a;
+    }
+    b
+}
+
+// Rule 4, absorption, and rules 6 and 7: an and or an or of two arguments that differ, the smaller first.
+fn related(
+    s: &mut [u8],
+    base: usize,
+    p: usize,
+    count: usize,
+    kind: u16,
+    a: Reference,
+    b: Reference,
+) -> Made
+    requires { ⌜ Room p base count (now s) ⌝ }
+    requires { ⌜ b .number < formula p count ⌝ }
+    ensures { λ r. ⌜ Makes (relate p kind (a .number) (b .number)) base count (now (s .entry)) (now (s .exit)) r ⌝ }
+{
+    let x = record_of(s, base, p, count, b);
+    if is_not_of(a, x) {
+        return Made {
+            reference: deciding(kind),
+            count,
+        };
+    }
+    if holds(a, x) {
+        return Made {
+            reference: absorbed(kind, a, b, x),
+            count,
+        };
+    }
+    stored(
+        s,
+        base,
+        p,
+        count,
+        Record {
+            kind,
+            first: a.number,
+            second: b.number,
+        },
+    )
+}
+
+// Rules 2 and 3: an and or an or, the smaller argument first.
 fn combined(
     s: &mut [u8],
     base: usize,
@@ -196,8 +275,7 @@ fn combined(
             count,
         };
     }
-    let end = deciding(kind);
-    if a.number == end.number {
+    if a.number == deciding(kind).number {
         return Made {
             reference: a,
             count,
@@ -209,23 +287,7 @@ fn combined(
             count,
         };
     }
-    if is_not_of(a, record_of(s, base, p, count, b)) {
-        return Made {
-            reference: end,
-            count,
-        };
-    }
-    stored(
-        s,
-        base,
-        p,
-        count,
-        Record {
-            kind,
-            first: a.number,
-            second: b.number,
-        },
-    )
+    related(s, base, p, count, kind, a, b)
 }
 
 // The reference of an operation on references, by the rules 1 to 7.

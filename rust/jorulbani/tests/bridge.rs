@@ -9,9 +9,9 @@ use worked::{example_l, result_of_l, LISTING_OF_L};
 #[test]
 fn answers_come_with_the_bytes_of_out() {
     let mut out = [0xee; 100];
-    assert_eq!(call(Call::Analyse, &example_l(), &mut out), 62);
-    assert_eq!(out[..62], result_of_l());
-    assert_eq!(out[62..], [0xee; 38]);
+    assert_eq!(call(Call::Analyse, &example_l(), &mut out), 44);
+    assert_eq!(out[..44], result_of_l());
+    assert_eq!(out[44..], [0xee; 56]);
 
     let setting = &[1, 0];
     assert_eq!(call(Call::Direct { setting }, &example_l(), &mut out), 3);
@@ -33,11 +33,11 @@ fn refusals_come_as_they_are_answered() {
 fn calls_are_timed_and_their_stack_is_measured() {
     let mut out = [0; 100];
     let timed = measured(Call::Analyse, &example_l(), &mut out, 100, false);
-    assert_eq!((timed.answer, timed.stack), (62, 0));
+    assert_eq!((timed.answer, timed.stack), (44, 0));
     assert!(timed.nanoseconds > 0);
 
     let weighed = measured(Call::Analyse, &example_l(), &mut out, 1, true);
-    assert_eq!(weighed.answer, 62);
+    assert_eq!(weighed.answer, 44);
     assert!(weighed.stack > 0);
 }
 

@@ -69,6 +69,24 @@ rule 5: not of a not                               | 7 | not 2, not 3 | 4 |
 rule 5: not, three times                           | 7 | not 2, not 3, not 4 | 5 |
 rule 5: not of the not of a record                 | 7 9 | and 2 3, not 4, not 5 | 6 |
 rule 5: not of what has become true                | 7 | or 2 1, not 3 | 4 |
+absorption: or, a variable and an and of it        | 7 9 | and 2 3, or 2 4 | 5 |
+absorption: or, an and and its second argument     | 7 9 | and 2 3, or 4 3 | 5 |
+absorption: and, a variable and an or of it        | 7 9 | or 2 3, and 2 4 | 5 |
+absorption: and, an or and its second argument     | 7 9 | or 2 3, and 4 3 | 5 |
+absorption: or, an or and its first argument       | 7 9 | or 2 3, or 4 2 | 5 |
+absorption: or, a variable and an or of it         | 7 9 | or 2 3, or 3 4 | 5 |
+absorption: and, an and and its first argument     | 7 9 | and 2 3, and 4 2 | 5 |
+absorption: and, a variable and an and of it       | 7 9 | and 2 3, and 3 4 | 5 |
+absorption: or, a record and an and of it          | 7 9 11 | or 2 3, and 4 5, or 5 6 | 7 |
+absorption: and, an or of a record and the record  | 7 9 11 | and 2 3, or 4 5, and 6 5 | 7 |
+absorption: held after translation                 | 7 9 | and 2 3, or 2 2, or 4 5 | 6 |
+absorption: a not record is held                   | 7 9 | not 2, and 3 4, or 4 5 | 6 |
+absorption: not met by the not of an and           | 7 9 | and 2 3, not 4, or 2 5 | 6 |
+absorption: not met one level deeper               | 7 9 11 | and 2 3, or 4 5, or 2 6 | 7 |
+absorption: not met by two ands of one variable    | 7 9 11 | and 2 3, and 2 4, or 5 6 | 7 |
+absorption: a label joined again                   | 7 9 11 13 | | 1 0 | 0 1 2 3, 1 0 4 5, 0 1 2 3
+absorption: an and joined by its argument          | 7 9 | and 2 3 | 1 0 | 0 1 4 4, 0 1 2 2
+absorption: by the elimination, in a row of four   | 7 9 11 | | 1 0 0 0 | 0 1 2 2, 1 2 3 3, 2 3 4 4
 rule 6: an and again                               | 7 9 | and 2 3, and 2 3 | 5 |
 rule 6: an and again, exchanged                    | 7 9 | and 2 3, and 3 2 | 5 |
 rule 6: an or again                                | 7 9 | or 2 3, or 2 3 | 5 |
@@ -145,9 +163,9 @@ uneven: triangle with a tail                       | 300 513 1027 5000 65535 | n
 uneven: ring with a chord and a tail               | 256 511 512 4660 | and 2 3, not 6, or 7 4, not 3, and 9 5, or 10 2 | 0 1 0 3 0 | 0 1 2 3, 1 2 4 5, 2 3 0 8, 3 0 7 11, 0 2 5 0, 4 3 6 1, 1 0 8 4
 uneven: all four linked, three pairs of them twice | 2 258 772 1286 65534 | or 2 6, not 7 | 1 0 0 0 | 0 1 2 3, 0 2 4 5, 0 3 6 7, 1 2 0 8, 1 3 8 0, 2 3 3 2, 1 0 5 6, 2 0 7 4, 3 2 8 0
 uneven: star with two leaves linked                | 255 256 | not 2, not 3, and 4 3, or 4 5, and 7 2 | 0 1 0 2 0 0 | 0 1 2 4, 0 2 3 0, 0 3 6 7, 0 4 5 2, 0 5 8 3, 1 0 3 5, 3 0 0 6, 1 2 7 0
-uneven: one way round a ring of five, and back     | 3 700 | not 3 | 2 0 0 1 0 | 0 1 2 0, 1 2 3 0, 2 3 4 0, 3 4 1 0, 4 0 3 0, 0 1 0 3, 3 2 4 0
+uneven: one way round a ring of five, and back     | 3 700 | not 3 | 2 0 0 1 0 | 0 1 2 0, 1 2 3 0, 2 3 4 0, 3 4 1 0, 4 0 4 0, 0 1 0 3, 3 2 2 0
 uneven: ladder, its sides one way                  | 257 514 771 1028 1285 1542 1799 | or 3 8, not 9 | 1 0 0 10 0 0 | 0 2 2 0, 2 4 3 0, 1 3 0 4, 3 5 0 5, 0 1 6 7, 2 3 8 10, 4 5 9 2, 1 0 5 4, 5 4 10 9
-uneven: coils 0 and 40000                          | 0 40000 | not 3 | 2 0 0 0 3 | 0 1 4 2, 1 2 2 3, 2 0 3 0, 2 3 3 4, 3 4 4 0, 1 0 0 3, 3 2 2 0
+uneven: coils 0 and 40000                          | 0 40000 | not 3 | 2 0 0 3 0 | 0 1 4 2, 1 2 2 3, 2 0 3 0, 2 3 3 4, 3 4 4 0, 1 0 0 3, 3 2 2 0
 uneven: two triangles, one of them dead            | 9 265 521 777 | not 5 | 3 0 0 0 0 0 0 | 0 1 2 6, 1 2 3 0, 2 0 4 5, 3 4 5 4, 4 5 0 3, 5 3 2 2, 2 1 6 3
 uneven: joins that make no record                  | 600 601 602 603 604 | not 6 | 1 0 2 0 | 0 1 2 3, 1 2 4 0, 2 0 5 6, 2 3 7 5, 0 1 2 3, 2 1 0 4, 1 0 0 1
 uneven: given formulas, few of which make a record | 1 257 300 400 500 | or 2 2, and 3 1, not 4, not 9, or 5 0, and 9 4, and 3 2 | 13 0 0 0 | 0 1 7 9, 1 2 10 0, 2 0 13 4, 3 0 6 11, 1 0 12 5

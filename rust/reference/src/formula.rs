@@ -72,7 +72,7 @@ impl Formulas {
         }
     }
 
-    /// and, by rules 1 ("the smaller goes first"), 2, 3, 4 and then 6 and 7.
+    /// and, by rules 1 ("the smaller goes first"), 2, 3, 4, absorption, and then 6 and 7.
     pub fn and(&mut self, one: Reference, other: Reference) -> Reference {
         let (first, second) = (one.min(other), one.max(other));
         if first == FALSE {
@@ -81,12 +81,14 @@ impl Formulas {
             second
         } else if self.negated(second) == Some(first) {
             FALSE
+        } else if let Some(left) = self.absorbed(Kind::And, first, second) {
+            left
         } else {
             self.record(Kind::And, first, second)
         }
     }
 
-    /// or, by rules 1 ("the smaller goes first"), 2, 3, 4 and then 6 and 7.
+    /// or, by rules 1 ("the smaller goes first"), 2, 3, 4, absorption, and then 6 and 7.
     pub fn or(&mut self, one: Reference, other: Reference) -> Reference {
         let (first, second) = (one.min(other), one.max(other));
         if first == TRUE {
@@ -95,6 +97,8 @@ impl Formulas {
             second
         } else if self.negated(second) == Some(first) {
             TRUE
+        } else if let Some(left) = self.absorbed(Kind::Or, first, second) {
+            left
         } else {
             self.record(Kind::Or, first, second)
         }
@@ -110,11 +114,29 @@ impl Formulas {
         }
     }
 
+    /// "if the other argument is a record holding a, then a or (a and b) is a; a and (a or b) is a; a or (a or b),
+    /// a and (a and b) are that record itself": each argument is tried as a, and the other is the record.
+    fn absorbed(&self, kind: Kind, one: Reference, other: Reference) -> Option<Reference> {
+        let given = |a: Reference, other: Reference| {
+            let record = self
+                .named(other)
+                .filter(|record| record.kind != Kind::Not)?;
+            let holding = record.first == a || record.second == a;
+            holding.then_some(if record.kind == kind { other } else { a })
+        };
+        given(one, other).or_else(|| given(other, one))
+    }
+
     /// The argument of a not record; none for every other reference.
     fn negated(&self, reference: Reference) -> Option<Reference> {
-        let index = usize::from(reference).checked_sub(2 + self.variables)?;
-        let record = self.records[index];
+        let record = self.named(reference)?;
         (record.kind == Kind::Not).then_some(record.first)
+    }
+
+    /// The record of a reference; none for a constant or a variable.
+    fn named(&self, reference: Reference) -> Option<Record> {
+        let index = usize::from(reference).checked_sub(2 + self.variables)?;
+        Some(self.records[index])
     }
 
     /// Rule 6, the record that exists already, or rule 7, "a new record after the last".
@@ -178,6 +200,23 @@ mod tests {
         assert_eq!((formulas.and(3, 4), formulas.and(4, 3)), (0, 0));
         assert_eq!(formulas.records().len(), 1);
         assert_eq!((formulas.and(2, 4), formulas.or(2, 4)), (5, 6));
+    }
+
+    /// Absorption: an argument held first or second by an and or an or record, either way round, and one level deep.
+    #[test]
+    fn absorption() {
+        let mut formulas = Formulas::new(3);
+        assert_eq!((formulas.and(2, 3), formulas.or(2, 3)), (5, 6));
+        for a in [2, 3] {
+            assert_eq!((formulas.or(a, 5), formulas.or(5, a)), (a, a));
+            assert_eq!((formulas.and(a, 6), formulas.and(6, a)), (a, a));
+            assert_eq!((formulas.or(a, 6), formulas.or(6, a)), (6, 6));
+            assert_eq!((formulas.and(a, 5), formulas.and(5, a)), (5, 5));
+        }
+        assert_eq!(formulas.records().len(), 2);
+        assert_eq!((formulas.or(4, 5), formulas.and(4, 6)), (7, 8));
+        assert_eq!((formulas.or(2, 7), formulas.and(2, 8)), (9, 10));
+        assert_eq!((formulas.or(5, 7), formulas.and(6, 8)), (7, 8));
     }
 
     /// Rules 6 and 7: one record for both argument orders, and another for another kind.

@@ -14,24 +14,21 @@ pub fn example_l() -> Vec<u8> {
 }
 
 pub const LISTING_OF_L: &str = "\
-vertices 3 switches 2 joins 0 work 8 nodes 4
+vertices 3 switches 2 joins 0 work 8 nodes 1
 pivot 0 degree 1
 pivot 1 degree 1
 pivot 2 degree 0
 f 4 and 2 3
-f 5 and 3 4
-f 6 or 2 5
-f 7 and 2 6
 vertex 0 formula 1
-vertex 1 formula 6
+vertex 1 formula 2
 vertex 2 formula 4
 ";
 
 /// The result form of that listing.
 pub fn result_of_l() -> Vec<u8> {
     let variables = [2, 7, 9];
-    let records = [4, 1, 2, 3, 1, 3, 4, 2, 2, 5, 1, 2, 6];
-    let vertices = [3, 1, 6, 4];
+    let records = [1, 1, 2, 3];
+    let vertices = [3, 1, 2, 4];
     let order = [3, 0, 1, 1, 1, 2, 0];
     let figures = [3, 0, 0, 8];
     [&variables[..], &records, &vertices, &order, &figures]

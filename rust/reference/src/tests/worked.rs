@@ -12,10 +12,10 @@ const EXAMPLE_L: [u8; 34] = [
 ];
 
 /// Example L's result, set down from its listing.
-const RESULT_L: [u8; 62] = [
+const RESULT_L: [u8; 44] = [
     2, 0, 7, 0, 9, 0, // variables
-    4, 0, 1, 0, 2, 0, 3, 0, 1, 0, 3, 0, 4, 0, 2, 0, 2, 0, 5, 0, 1, 0, 2, 0, 6, 0, // records
-    3, 0, 1, 0, 6, 0, 4, 0, // vertices
+    1, 0, 1, 0, 2, 0, 3, 0, // records
+    3, 0, 1, 0, 2, 0, 4, 0, // vertices
     3, 0, 0, 0, 1, 0, 1, 0, 1, 0, 2, 0, 0, 0, // order
     3, 0, 0, 0, 0, 0, 8, 0, // figures
 ];
@@ -24,22 +24,19 @@ const RESULT_L: [u8; 62] = [
 #[test]
 fn example_l_listing() {
     let text = "\
-vertices 3 switches 2 joins 0 work 8 nodes 4
+vertices 3 switches 2 joins 0 work 8 nodes 1
 pivot 0 degree 1
 pivot 1 degree 1
 pivot 2 degree 0
 f 4 and 2 3
-f 5 and 3 4
-f 6 or 2 5
-f 7 and 2 6
 vertex 0 formula 1
-vertex 1 formula 6
+vertex 1 formula 2
 vertex 2 formula 4
 ";
     assert_eq!(listing(&EXAMPLE_L), text);
 }
 
-/// Room 16 + 2·2 + 6·8 + 6·3 = 86, though the result has 62 bytes: "exactly that much is accepted".
+/// Room 16 + 2·2 + 6·8 + 6·3 = 86, though the result has 44 bytes: "exactly that much is accepted".
 #[test]
 fn example_l_result_and_room() {
     assert_eq!(room_needed(&EXAMPLE_L), Ok(86));
@@ -174,14 +171,13 @@ fn given_formulas_are_translated() {
         [3, 9, 0],
     ];
     let file = wiring(&[7, 9], &given, &[9, 10], &[[0, 1, 8, 7]]);
-    // Answer 1 is 0 or (1 and 4) = 4; answer 0 is 1 or (4 and 2), and that product is a record.
+    // Answer 1 is 0 or (1 and 4) = 4; answer 0 is 1 or (4 and 2), and that product is 4, which holds 2.
     let text = "\
-vertices 2 switches 1 joins 0 work 4 nodes 3
+vertices 2 switches 1 joins 0 work 4 nodes 2
 pivot 0 degree 1
 pivot 1 degree 0
 f 4 and 2 3
 f 5 not 2
-f 6 and 2 4
 vertex 0 formula 1
 vertex 1 formula 4
 ";
@@ -192,17 +188,35 @@ vertex 1 formula 4
 /// Joins come in the switches' order, "first end to second end, then back", before any pivot.
 #[test]
 fn joins_in_order() {
-    let switches = [[0, 1, 2, 3], [1, 1, 2, 2], [1, 0, 4, 5], [0, 1, 2, 3]];
+    let switches = [[0, 1, 2, 3], [1, 1, 2, 2], [1, 0, 4, 5], [0, 1, 3, 2]];
     let file = wiring(&[1, 2, 3, 4], &[], &[0, 0], &switches);
-    // label(1,0) = 3 or 4 = f6, label(0,1) = 2 or 5 = f7, then 2 or f7 = f8, 3 or f6 = f9.
+    // label(1,0) = 3 or 4 = f6, label(0,1) = 2 or 5 = f7, then 3 or f7 = f8, 2 or f6 = f9.
     let text = "\
 vertices 2 switches 4 joins 4 work 4 nodes 4
 pivot 0 degree 1
 pivot 1 degree 0
 f 6 or 3 4
 f 7 or 2 5
-f 8 or 2 7
-f 9 or 3 6
+f 8 or 3 7
+f 9 or 2 6
+vertex 0 formula 0
+vertex 1 formula 0
+";
+    assert_eq!(listing(&file), text);
+}
+
+/// A label that is joined again is held by what it was joined to: nothing is added.
+#[test]
+fn joins_absorbed() {
+    let switches = [[0, 1, 2, 3], [1, 0, 4, 5], [0, 1, 2, 3]];
+    let file = wiring(&[1, 2, 3, 4], &[], &[0, 0], &switches);
+    // label(1,0) = 3 or 4 = f6, label(0,1) = 2 or 5 = f7, then 2 or f7 = f7, 3 or f6 = f6.
+    let text = "\
+vertices 2 switches 3 joins 4 work 4 nodes 2
+pivot 0 degree 1
+pivot 1 degree 0
+f 6 or 3 4
+f 7 or 2 5
 vertex 0 formula 0
 vertex 1 formula 0
 ";
