@@ -26,7 +26,7 @@
  *      5   reference not defined there, or second argument of not is not 0          that number
  *      6   switch end is not a vertex                                               that number
  *      7   bytes after the switches                                                 first such byte
- *      8   joins plus work above 10,000                                             0
+ *      8   unused
  *      9   result room too small                                                    0
  *     10   setting's length is not the number of variables                          0
  *     11   setting byte not 0 or 1                                                  its index
@@ -65,7 +65,7 @@ extern "C" {
 #endif
 
 /* Bytes that are proved to be enough for every result: with such an `out`, refusal 9 does not occur. */
-#define JORULBANI_RESULT_ROOM 63560
+#define JORULBANI_RESULT_ROOM 63548
 
 /* Bytes that are enough for every direct answer: with such an `out`, refusal 12 does not occur. */
 #define JORULBANI_ANSWER_ROOM 24
@@ -73,7 +73,7 @@ extern "C" {
 /* Bytes that jorulbani_list wants: with fewer it writes nothing. */
 #define JORULBANI_LISTING_ROOM 262144
 
-/* The number of a refusal, 1 to 12, or 0 where the answer is a length. */
+/* The number of a refusal, 1 to 7 or 9 to 12, or 0 where the answer is a length. */
 static inline uint32_t jorulbani_number(uint64_t answer)
 {
     return (uint32_t)(answer >> 32);
@@ -87,7 +87,7 @@ static inline uint32_t jorulbani_place(uint64_t answer)
 
 /*
  * Analyses a wiring file. Accepted: puts the result form at the front of `out`, answers its length, and leaves the bytes of `out`
- * behind it as they came. Refused, 1 to 9: leaves all of `out` as it came.
+ * behind it as they came. Refused, 1 to 7 and 9: leaves all of `out` as it came.
  */
 uint64_t jorulbani_analyse(const uint8_t *file, size_t file_len, uint8_t *out, size_t out_len);
 
@@ -102,7 +102,7 @@ uint64_t jorulbani_direct(const uint8_t *file, size_t file_len, const uint8_t *s
 /*
  * Lists the analysis of a wiring file as text: each line ends with a line feed, and no zero byte follows the last. Puts the text at
  * the front of `out`, answers its length, and leaves the bytes of `out` behind it as they came. The text of a refused file is the one
- * line `refused NUMBER at PLACE`, with a number of 1 to 8, so the answer is always a length and never a refusal. Where `out_len` is
+ * line `refused NUMBER at PLACE`, with a number of 1 to 7, so the answer is always a length and never a refusal. Where `out_len` is
  * below JORULBANI_LISTING_ROOM it answers 0 and leaves all of `out` as it came.
  */
 uint64_t jorulbani_list(const uint8_t *file, size_t file_len, uint8_t *out, size_t out_len);

@@ -11,7 +11,7 @@ use Rattle.formula.specs.MakeLaws.{orderly-none}
 use Rattle.network.specs.Layout.{Sound}
 use Rattle.network.specs.Network.{edition, entriesOf, networkOf}
 use Rattle.network.specs.declared.Sections.{Sections}
-use Rattle.plan.specs.Measure.{operationsOf, roomIn}
+use Rattle.plan.specs.Measure.{operationsOf, roomIn, plan-bounded, edition-most}
 use Rattle.plan.specs.Plans.{planIn}
 use Rattle.plan.specs.declared.Plan.{Plan}
 use Rattle.records.specs.Bytes.{recordsIn}
@@ -23,11 +23,10 @@ use Rattle.writer.specs.Steps.{plan-fits}
 use Rattle.writer.specs.Whole.{Whole, whole}
 use Rattle.analyse.specs.Solved.{SolvedIn}
 
--- An accepted file with its plan, which asks for no more operations than are allowed, and a buffer that has the room.
+-- An accepted file with its plan, and a buffer that has the room.
 pub record Fillable (file : List ℕ) (parts : Sections) (found : Plan) (out : List ℕ) : Type 0 where
   pub sound : Sound edition file parts
   pub planned : found ≡ planIn (networkOf file)
-  pub allowed : operationsOf found ≤ 10000
   pub room : roomIn parts found ≤ length out
 
 module _ (file : List ℕ) (parts : Sections) (found : Plan) (out : List ℕ) (able : Fillable file parts found out) where
@@ -36,7 +35,10 @@ module _ (file : List ℕ) (parts : Sections) (found : Plan) (out : List ℕ) (a
   fill-variables = omega (arith, able .room)
 
   pub fill-fits : Fits found (parts .vertices)
-  fill-fits = plan-fits file parts (able .sound .layout) (able .sound .within) found (able .planned) (able .allowed)
+  fill-fits = plan-fits file parts (able .sound .layout) (able .sound .within) found (able .planned)
+
+  few : (found .joins ≤ 798) × (found .work ≤ 9200)
+  few = edition-most _ _ (plan-bounded edition file parts (able .sound .layout) (able .sound .within) found (able .planned))
 
   module _ (first : List ℕ) (e : first ≡ putNumbers out 0 (section single (networkOf file .variables))) where
     long : length first ≡ length out
@@ -49,13 +51,13 @@ module _ (file : List ℕ) (parts : Sections) (found : Plan) (out : List ℕ) (a
         record {
           orderly = orderly-none (parts .variables);
           room = omega (arith, able .room, long);
-          fits = omega (arith, able .allowed, able .sound .within .variables, able .sound .within .givens);
+          fits = omega (arith, few .0, few .1, able .sound .within .variables, able .sound .within .givens);
         }
 
     module _ (cells second : List ℕ) (count : ℕ) (solved : SolvedIn file parts found (4 + 2 * parts .variables) first cells second count) where
       -- and for all that comes after them;
       pub fill-count : count < 65536
-      fill-count = omega (arith, solved .few, able .allowed, able .sound .within .givens)
+      fill-count = omega (arith, solved .few, few .0, few .1, able .sound .within .givens)
 
       pub fill-room : resultLength parts count ≤ length second
       fill-room =

@@ -1,10 +1,9 @@
 -- What `analyse` promises, and that each way out keeps it.
 use mathlib.Core.Path.{_≡_, sym, _∙_}
-use mathlib.Core.Bool.{Bool, true, false}
 use mathlib.Core.List.{List}
 use Prim.Native.Nat.{ℕ, _<_, _≤_}
 use native.Mathlib.Omega.{arith}
-use borrow.Author.Tests.{lt-ltb, le-ltb, ltb-false}
+use borrow.Author.Tests.{lt-ltb, le-ltb}
 use lib.ListN.{length, drop}
 use Rattle.analysis.specs.Analysis.{analysisFault, analysis, bufferAfter, lengthIn}
 use Rattle.analysis.specs.Result.{resultIn, resultOf}
@@ -20,7 +19,7 @@ use Rattle.network.specs.Faults.{networkFault}
 use Rattle.network.specs.Layout.{sectionsOf, networkAnswer}
 use Rattle.network.specs.Network.{Network, edition, networkOf}
 use Rattle.network.specs.Ranges.{sound}
-use Rattle.plan.specs.Measure.{roomFault, operationsOf, overIn, roomIn, over-fault, room-is}
+use Rattle.plan.specs.Measure.{roomFault, roomIn, room-is}
 use Rattle.plan.specs.Plans.{planIn}
 use Rattle.plan.specs.declared.Plan.{Plan}
 use Rattle.reader.specs.Answers.{checkedOf}
@@ -82,18 +81,13 @@ module _ (s before : List ℕ) where
         let ranged = layout-ranged s parts (sound edition s parts a .layout) in
         record { truths = rw said (result-truths (networkOf s) ranged); figures = rw said (result-figures (networkOf s) ranged) }
 
-    -- It asks for too many operations.
-    pub analyse-over : (t : Bool) → t ≡ overIn found → t ≡ true → Promise s before before (replies.Refused faults.Work)
-    unfolding analysisFault
-    analyse-over t o h = refusal faults.Work (rw (← good, ← over-fault (networkOf s) found e, ← o, h))
-
-    module _ (t : Bool) (o : t ≡ overIn found) (h : t ≡ false) (room : ℕ) (is : room ≡ roomIn parts found) where
+    module _ (room : ℕ) (is : room ≡ roomIn parts found) where
       -- The buffer is too small.
       pub analyse-room : length before < room → Promise s before before (replies.Refused faults.ResultRoom)
       unfolding analysisFault roomFault
       analyse-room m =
           let w = room-is s parts (sound edition s parts a .layout) found e in
-          refusal faults.ResultRoom (rw (← good, ← over-fault (networkOf s) found e, ← o, h, ← w, ← is, lt-ltb _ _ m))
+          refusal faults.ResultRoom (rw (← good, ← w, ← is, lt-ltb _ _ m))
 
       -- It can be filled.
       pub analyse-able : room ≤ length before → Fillable s parts found before
@@ -101,7 +95,6 @@ module _ (s before : List ℕ) where
           record {
             sound = sound edition s parts a;
             planned = e;
-            allowed = ltb-false 10000 (operationsOf found) (sym o ∙ h);
             room = omega arith;
           }
 
@@ -112,5 +105,5 @@ module _ (s before : List ℕ) where
       analyse-done m after n whole =
           let w = room-is s parts (sound edition s parts a .layout) found e in
           let v : fine ≡ analysisFault edition s (length before) =
-          rw (← good, ← over-fault (networkOf s) found e, ← o, h, ← w, ← is, le-ltb _ _ m) in
+          rw (← good, ← w, ← is, le-ltb _ _ m) in
           record { reply = rw (← v, ← whole .long); bytes = rw (← v) (whole .bytes); told = rw (← v) (tells after n whole) }

@@ -74,9 +74,6 @@ fn answer(file: &[u8], parts: Sections, out: &mut [u8]) -> Reply
     ensures { λ r. ⌜ Promise (now (file .entry)) (now (out .entry)) (now (out .exit)) r ⌝ }
 {
     let found = plan::plan_of(file, parts);
-    if plan::over(found) {
-        return Reply::Refused(Fault::Work);
-    }
     let room = plan::room_for(parts, found);
     if out.len() < room {
         return Reply::Refused(Fault::ResultRoom);

@@ -6,14 +6,12 @@ use Rattle.form.specs.Refusals.{Verdict, firstOf, Answer, refused, accepted, an
 use Rattle.network.specs.Network.{networkOf}
 use Rattle.network.specs.Faults.{networkFault}
 use Rattle.network.specs.declared.Limits.{Limits}
-use Rattle.plan.specs.Measure.{operationsFault, roomFault}
+use Rattle.plan.specs.Measure.{roomFault}
 use Rattle.analysis.specs.Result.{resultOf}
 
--- 1 to 7, then 8, then 9.
+-- 1 to 7, then 9.
 unfoldable pub analysisFault : Limits → List ℕ → ℕ → Verdict
-analysisFault limits s room =
-    let net = networkOf s in
-    firstOf (networkFault limits s) (firstOf (operationsFault net) (roomFault net room))
+analysisFault limits s room = firstOf (networkFault limits s) (roomFault (networkOf s) room)
 
 -- The whole analysis.
 unfoldable pub analysis : Limits → List ℕ → ℕ → Answer (List ℕ)

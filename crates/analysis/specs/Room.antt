@@ -12,36 +12,45 @@ use Rattle.network.specs.Lists.{variables-length, givens-length, starts-length}
 use Rattle.network.specs.Network.{edition, networkOf}
 use Rattle.network.specs.Places.{network-placed}
 use Rattle.network.specs.Ranges.{in-range}
-use Rattle.plan.specs.Measure.{operations, roomFor, operationsFault, roomFault, operations-fine}
+use Rattle.links.specs.Switches.{joinsOf}
+use Rattle.network.specs.Layout.{sectionsOf}
+use Rattle.plan.specs.Measure.{workIn, operations, roomFor, roomFault, plan-bounded, edition-most}
+use Rattle.plan.specs.Plans.{planFor, planIn}
 use Rattle.analysis.specs.Analysis.{analysisFault}
 
 -- Room for any result.
 abbrev pub resultRoom : ℕ
-resultRoom = 63560
+resultRoom = 63548
 
--- A later test that finds nothing where the others do not makes no difference.
-first-last : (a b c : Verdict) → (a ≡ fine → b ≡ fine → c ≡ fine) → firstOf a (firstOf b c) ≡ firstOf a b
-first-last fine fine c e = e refl refl
-first-last fine (fault number place) c e = refl
-first-last (fault number place) b c e = refl
+-- A later test that finds nothing where the first does not makes no difference.
+first-last : (a b : Verdict) → (a ≡ fine → b ≡ fine) → firstOf a b ≡ a
+first-last fine b e = e refl
+first-last (fault number place) b e = refl
 
 module _ (s : List ℕ) where
-  -- Where 1 to 8 find nothing, no more is needed,
-  pub room-most : networkFault edition s ≡ fine → operationsFault (networkOf s) ≡ fine → roomFor (networkOf s) ≤ resultRoom
-  unfolding roomFor
-  room-most e o =
+  -- Where 1 to 7 find nothing, joins are at most 798 and the work is at most 9,200,
+  pub operations-most : networkFault edition s ≡ fine → (joinsOf (networkOf s .switches) ≤ 798) × (workIn (networkOf s) ≤ 9200)
+  unfolding planIn planFor
+  operations-most e =
       let sound = in-range edition s e in
-      omega (arith, operations-fine _ o, variables-length (sound .layout), givens-length (sound .layout), starts-length (sound .layout), sound .within)
+      edition-most _ _ (plan-bounded edition s (sectionsOf s) (sound .layout) (sound .within) (planIn (networkOf s)) refl)
 
-  -- so that in this room the first fault is the first of 1 to 8.
-  pub fault-in-room : analysisFault edition s resultRoom ≡ firstOf (networkFault edition s) (operationsFault (networkOf s))
+  -- and no more room is needed,
+  pub room-most : networkFault edition s ≡ fine → roomFor (networkOf s) ≤ resultRoom
+  unfolding roomFor operations
+  room-most e =
+      let sound = in-range edition s e in
+      let few = operations-most e in
+      omega (arith, variables-length (sound .layout), givens-length (sound .layout), starts-length (sound .layout), sound .within)
+
+  -- so that in this room the first fault is the first of 1 to 7.
+  pub fault-in-room : analysisFault edition s resultRoom ≡ networkFault edition s
   unfolding analysisFault roomFault
-  fault-in-room = first-last (networkFault edition s) (operationsFault (networkOf s)) _ (λ e o. sym (above-fine 9 0 (room-most e o)))
+  fault-in-room = first-last (networkFault edition s) _ (λ e. sym (above-fine 9 0 (room-most e)))
 
-  -- The numbers and places of 1 to 9.
+  -- The numbers and places of 1 to 7 and of 9.
   pub analysis-placed : (room : ℕ) → PlacedIn 6656 (analysisFault edition s room)
-  unfolding analysisFault operationsFault roomFault
+  unfolding analysisFault roomFault
   analysis-placed room =
       placed-first 6656 _ _ (network-placed 6656 edition s (omega arith))
-      (λ e. placed-first 6656 _ _ (placed-if 6656 (ltb 10000 (operations (networkOf s))) 8 0 (omega arith))
-      (λ e. placed-if 6656 (ltb room (roomFor (networkOf s))) 9 0 (omega arith)))
+      (λ e. placed-if 6656 (ltb room (roomFor (networkOf s))) 9 0 (omega arith))

@@ -232,7 +232,7 @@ unfolding
     plans.forward plans.backward plans.plan
     wiring.passed wiring.translated wiring.starting wiring.setOrJoin wiring.labelled wiring.translateSwitch wiring.wire wiring.wireAll wiring.wired
     result.eliminated result.resultIn result.resultNumbers result.resultOf
-    measures.operations measures.roomFor measures.operationsFault measures.roomFault whole.analysisFault whole.analysis
+    measures.operations measures.roomFor measures.roomFault whole.analysisFault whole.analysis
     storing.storedOf worths.operate worths.evaluate worths.worth
     texts.digitsIn texts.decimal texts.pairLine
     lines.countsLine lines.pivotLine lines.kindText lines.secondText lines.recordLine lines.vertexLine lines.lines lines.resultLines

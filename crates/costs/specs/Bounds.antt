@@ -1,8 +1,8 @@
--- A bound on the work of every order, by the number of vertices alone.
+-- Bounds on the work of every order, by the number of vertices alone, and on joins, by the number of switches.
 use mathlib.Core.Path.{_≡_, refl, ap}
 use mathlib.Core.Bool.{not}
-use mathlib.Core.List.{List}
-use Prim.Native.Nat.{ℕ, zero, suc, _+_, _*_, _≤_}
+use mathlib.Core.List.{List, [], _∷_}
+use Prim.Native.Nat.{ℕ, zero, suc, _+_, _*_, _-_, _≤_}
 use native.Mathlib.Nat.{mul-le-mul}
 use native.Mathlib.Omega.{arith}
 use lib.Dec.{eqb}
@@ -13,7 +13,9 @@ use Rattle.links.specs.Links.{Graph, beside, neighbours, degree, gone, order}
 use Rattle.links.specs.ListLaws.{Ascending, keep-shorter, ascending-keep, without-length, upTo-ascending, upTo-length}
 use Rattle.links.specs.Neighbours.{neighbours-others}
 use Rattle.links.specs.Sums.{total-most}
+use Rattle.links.specs.Switches.{link, joinsAt, joinsFrom, noLinks, joinsOf}
 use Rattle.links.specs.OrderLaws.{TakesAll, none-left, taken, order-takes}
+use Rattle.network.specs.declared.Switch.{Switch}
 use Rattle.sheet.specs.Asks.{work}
 use Rattle.elimination.specs.Plan.{plan, workOf}
 use Rattle.elimination.specs.WorkLaws.{labelWork, neighbourWork, pivotWork, plan-work}
@@ -67,6 +69,24 @@ pub work-most : (m n : ℕ) → m ≤ n → (g : Graph) → workOf m g ≤ full 
 work-most m n h g =
     omega (arith, work-bound g (vertices m) (order m g) (order-takes m g) (upTo-ascending m 0), ap full (upTo-length m 0), full-grows m n h)
 
--- For at most 24 vertices that is 9,200.
-pub work-24 : (m : ℕ) → m ≤ 24 → (g : Graph) → workOf m g ≤ 9200
-work-24 m h g = work-most m 24 h g
+-- In closed form: three times the work is at most 2n³ − 2n.
+pub work-cubic : (m n : ℕ) → m ≤ n → (g : Graph) → 3 * workOf m g + 2 * n ≤ 2 * n * n * n
+work-cubic m n h g = omega (arith, work-most m n h g, full-closed n)
+
+-- A switch has at most two joins,
+joins-twice : (g : Graph) (ws : List Switch) → joinsFrom g ws ≤ 2 * length ws
+unfolding joinsFrom joinsAt
+joins-twice g [] = omega arith
+joins-twice g (w ∷ ws) =
+    let later = joins-twice (link w g) ws in
+    byTest (eqb (w .first) (w .second))
+    (λ t. rw t (omega arith))
+    (λ t. rw t (byTest (g (w .first) (w .second)) (λ l. rw l (omega arith)) (λ l. rw l (omega arith))))
+
+-- and the first of all has none.
+pub joins-most : (ws : List Switch) (m : ℕ) → length ws ≤ m → joinsOf ws ≤ 2 * m - 2
+unfolding joinsOf joinsFrom joinsAt
+joins-most [] m h = omega arith
+joins-most (w ∷ ws) m h =
+    let later = joins-twice (link w noLinks) ws in
+    byTest (eqb (w .first) (w .second)) (λ t. rw t (omega arith)) (λ t. rw t (omega arith))

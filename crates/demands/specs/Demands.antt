@@ -4,26 +4,31 @@ use mathlib.Core.Logic.{_↔_}
 use mathlib.Core.Bool.{So}
 use mathlib.Core.List.{List, [], _∷_, _++_, List·Memᴰ}
 use Prim.Native.Nat.{ℕ, _+_, _*_, _<_, _≤_}
+use native.Mathlib.Omega.{arith}
 use lib.ListN.{length, getD, take, drop}
 use Rattle.analyse.specs.Promise as analyse
 use Rattle.analyse.specs.Unique as analysed
 use Rattle.analysis.specs.Analysis.{analysisFault, analysis}
 use Rattle.analysis.specs.Result.{Stored, resultOf}
+use Rattle.analysis.specs.Room.{operations-most, room-most}
 use Rattle.costs.specs.Built.{Built}
 use Rattle.costs.specs.Closed.{costs}
 use Rattle.direct.specs.Direct.{directFault, directAnswer, Answered}
 use Rattle.direct.specs.Promise as direct
 use Rattle.direct.specs.Unique as answered
 use Rattle.elimination.specs.Plan.{workOf}
-use Rattle.form.specs.Refusals.{accepted, replyOf}
+use Rattle.form.specs.Refusals.{fine, refused, accepted, replyOf}
+use Rattle.form.specs.Verdicts as verdicts
 use Rattle.form.specs.declared.Reply.{Reply}
 use Rattle.formula.specs.Make.{none, make}
 use Rattle.links.specs.Links.{Graph, Step, order, steps}
 use Rattle.links.specs.Lists.{vertices}
 use Rattle.links.specs.Switches.{linksOf, joinsOf}
 use Rattle.meaning.specs.System.{systemOf}
+use Rattle.network.specs.Faults.{networkFault}
 use Rattle.network.specs.Network.{edition, networkOf}
 use Rattle.paths.specs.Paths.{Reached}
+use Rattle.plan.specs.Measure.{workIn, roomFor}
 use Rattle.stored.specs.Stored.{storedOf, givensFigure, joinsFigure, workFigure}
 use Rattle.stored.specs.Truths.{truthIn}
 use Rattle.truth.specs.Systems.{Solution}
@@ -108,6 +113,25 @@ module _ (s before after : List ℕ) (r : Reply) (call : analyse.Promise s befor
 
     pub built-work-twelve : Built g (vertices n) → workFigure stored ≤ 12 * n
     built-work-twelve = analyse.told-answered call written is .figures .twelve
+
+-- Refusal 8, joins plus work above 10,000, cannot arise: of every file without a fault of 1 to 7, joins are at most 798 and the work is at most 9,200,
+-- together at most 9,998, and its result never needs more than 63,548 bytes. Both bounds are those of any limits, at 400 switches and 24 vertices.
+module _ (s : List ℕ) (read : networkFault edition s ≡ fine) where
+  pub joins-within : joinsOf (networkOf s .switches) ≤ 798
+  joins-within = operations-most s read .0
+
+  pub work-within : workIn (networkOf s) ≤ 9200
+  work-within = operations-most s read .1
+
+  pub operations-within : joinsOf (networkOf s .switches) + workIn (networkOf s) ≤ 9998
+  operations-within = omega (arith, joins-within, work-within)
+
+  pub room-within : roomFor (networkOf s) ≤ 63548
+  room-within = room-most s read
+
+-- No reply has the number 8.
+pub eight-unused : (r : Reply) (place : ℕ) → replyOf r ≡ refused 8 place → ⊥
+eight-unused = verdicts.eight-unused
 
 -- A call of `direct` is answered by the path rule, a byte for each vertex, or refused in the same way, and never both (demands 1 and 2).
 pub direct-or-refused : (s setting before after : List ℕ) (r : Reply) → direct.Promise s setting before after r → let net = networkOf s in

@@ -1,4 +1,4 @@
--- Every length and place that the product gives is below 2³², and refusals are numbered from 1 to 12.
+-- Every length and place that the product gives is below 2³², and refusals are numbered from 1 to 28.
 use mathlib.Core.Path.{_≡_, refl}
 use mathlib.Core.Bool.{not}
 use mathlib.Core.List.{List, [], _∷_}
@@ -22,7 +22,6 @@ use Rattle.network.specs.Lists.{variables-length, starts-length}
 use Rattle.network.specs.Network.{edition, networkOf}
 use Rattle.network.specs.Places.{network-placed}
 use Rattle.network.specs.Ranges.{in-range}
-use Rattle.plan.specs.Measure.{operationsFault}
 use Rattle.stored.specs.Lengths.{result-within}
 use Rattle.exports.specs.Codes.{upper, Narrow}
 
@@ -48,9 +47,8 @@ module _ (s : List ℕ) where
   unfolding analysisFault
   result-short room e =
       let h = first-fine (networkFault edition s) _ e in
-      let i = first-fine (operationsFault (networkOf s)) _ (h .1) in
       let file = in-range edition s (h .0) in
-      omega (arith, result-within (networkOf s) (layout-ranged s _ (file .layout)), room-most s (h .0) (i .0))
+      omega (arith, result-within (networkOf s) (layout-ranged s _ (file .layout)), room-most s (h .0))
 
   pub analysis-narrow : (room : ℕ) → Narrow (lengthIn (analysis edition s room))
   unfolding analysis

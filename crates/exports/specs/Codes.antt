@@ -28,10 +28,10 @@ pub record Through (promise : Reply → Type 0) (r : ℕ) : Type 0 where
   pub code : r ≡ codeOf (replyOf reply)
   pub says : answerFrom r ≡ replyOf reply
 
--- Lengths and places are below 2³², and refusals are numbered from 1 to 12.
+-- Lengths and places are below 2³², and refusals are numbered from 1 to 28.
 abbrev pub Narrow : Answer ℕ → Type 0
 Narrow (accepted n) = n < upper
-Narrow (refused number place) = (1 ≤ number) × (number ≤ 12) × (place < upper)
+Narrow (refused number place) = (1 ≤ number) × (number ≤ 28) × (place < upper)
 
 -- Then the number tells the answer.
 pub code-says : (a : Answer ℕ) → Narrow a → answerFrom (codeOf a) ≡ a

@@ -4,10 +4,10 @@ use mathlib.Core.Bool.{Bool, true, false}
 use Prim.Native.Nat.{ℕ, _≤_}
 use Rattle.form.specs.Refusals.{Verdict, fine, fault, faultIf, firstOf}
 
--- A refusal with a number from 1 to 12, at a place up to the last.
+-- A refusal with a number from 1 to 28, at a place up to the last.
 pub record Placed (last number place : ℕ) : Type 0 where
   pub low : 1 ≤ number
-  pub high : number ≤ 12
+  pub high : number ≤ 28
   pub inside : place ≤ last
 
 -- A verdict's refusal is such a one, where it has one.
@@ -28,7 +28,7 @@ module _ (last : ℕ) where
   placed-first (fault number place) b h later = h
 
   -- and a test's fault where its number and its place are.
-  pub placed-if : (t : Bool) (number at : ℕ) → (1 ≤ number) × (number ≤ 12) × (at ≤ last) → PlacedIn last (faultIf t number at)
+  pub placed-if : (t : Bool) (number at : ℕ) → (1 ≤ number) × (number ≤ 28) × (at ≤ last) → PlacedIn last (faultIf t number at)
   unfolding PlacedIn
   placed-if true number at h = record { low = h .0; high = h .1; inside = h .2 }
   placed-if false number at h = tt

@@ -31,7 +31,7 @@ abbrev pub answer : {A : Type 0} → Verdict → A → Answer A
 answer fine a = accepted a
 answer (fault number place) a = refused number place
 
--- The number of each fault,
+-- The number of each fault; 8 is unused.
 abbrev pub numberOf : Fault → ℕ
 numberOf (faults.Cut place) = 1
 numberOf (faults.Count place) = 2
@@ -40,13 +40,12 @@ numberOf (faults.Kind place) = 4
 numberOf (faults.Reference place) = 5
 numberOf (faults.End place) = 6
 numberOf (faults.Trailing place) = 7
-numberOf faults.Work = 8
 numberOf faults.ResultRoom = 9
 numberOf faults.SettingLength = 10
 numberOf (faults.SettingByte index) = 11
 numberOf faults.AnswerRoom = 12
 
--- and its place.
+-- The place of each fault.
 abbrev pub placeOf : Fault → ℕ
 placeOf (faults.Cut place) = place
 placeOf (faults.Count place) = place
@@ -55,7 +54,6 @@ placeOf (faults.Kind place) = place
 placeOf (faults.Reference place) = place
 placeOf (faults.End place) = place
 placeOf (faults.Trailing place) = place
-placeOf faults.Work = 0
 placeOf faults.ResultRoom = 0
 placeOf faults.SettingLength = 0
 placeOf (faults.SettingByte index) = index

@@ -54,10 +54,9 @@ faultFrom n place =
     (cond (eqb n 5) (faults.Reference place)
     (cond (eqb n 6) (faults.End place)
     (cond (eqb n 7) (faults.Trailing place)
-    (cond (eqb n 8) faults.Work
     (cond (eqb n 9) faults.ResultRoom
     (cond (eqb n 10) faults.SettingLength
-    (cond (eqb n 11) (faults.SettingByte place) faults.AnswerRoom))))))))))
+    (cond (eqb n 11) (faults.SettingByte place) faults.AnswerRoom)))))))))
 
 pub fault-back : (f : Fault) → faultFrom (numberOf f) (placeOf f) ≡ f
 fault-back (faults.Cut place) = refl
@@ -67,13 +66,30 @@ fault-back (faults.Kind place) = refl
 fault-back (faults.Reference place) = refl
 fault-back (faults.End place) = refl
 fault-back (faults.Trailing place) = refl
-fault-back faults.Work = refl
 fault-back faults.ResultRoom = refl
 fault-back faults.SettingLength = refl
 fault-back (faults.SettingByte index) = refl
 fault-back faults.AnswerRoom = refl
 
--- and what a reply says determines it.
+-- but for 8, which is no fault's.
+eight-of-none : (f : Fault) → numberOf f ≡ 8 → ⊥
+eight-of-none (faults.Cut place) e = omega arith
+eight-of-none (faults.Count place) e = omega arith
+eight-of-none (faults.Coil place) e = omega arith
+eight-of-none (faults.Kind place) e = omega arith
+eight-of-none (faults.Reference place) e = omega arith
+eight-of-none (faults.End place) e = omega arith
+eight-of-none (faults.Trailing place) e = omega arith
+eight-of-none faults.ResultRoom e = omega arith
+eight-of-none faults.SettingLength e = omega arith
+eight-of-none (faults.SettingByte index) e = omega arith
+eight-of-none faults.AnswerRoom e = omega arith
+
+pub eight-unused : (r : Reply) (place : ℕ) → replyOf r ≡ refused 8 place → ⊥
+eight-unused (replies.Accepted n) place e = let z : _≡_ {A = ℕ} 0 1 = cc in omega arith
+eight-unused (replies.Refused f) place e = eight-of-none f cc
+
+-- What a reply says determines it.
 abbrev replyFrom : Answer ℕ → Reply
 replyFrom (refused n p) = replies.Refused (faultFrom n p)
 replyFrom (accepted n) = replies.Accepted n

@@ -37,7 +37,7 @@ impl Reference {
     }
 }
 
-// What is wrong, by the refusals' numbers from 1 to 12, with its place where that is not always 0.
+// What is wrong, by the refusals' numbers, with its place where that is not always 0. Number 8 is unused.
 pub enum Fault {
     Cut(usize),
     Count(usize),
@@ -46,7 +46,6 @@ pub enum Fault {
     Reference(usize),
     End(usize),
     Trailing(usize),
-    Work,
     ResultRoom,
     SettingLength,
     SettingByte(usize),
@@ -66,7 +65,6 @@ impl Fault {
             Fault::Reference(_) => 5,
             Fault::End(_) => 6,
             Fault::Trailing(_) => 7,
-            Fault::Work => 8,
             Fault::ResultRoom => 9,
             Fault::SettingLength => 10,
             Fault::SettingByte(_) => 11,
@@ -86,7 +84,6 @@ impl Fault {
             Fault::Reference(at) => at,
             Fault::End(at) => at,
             Fault::Trailing(at) => at,
-            Fault::Work => 0,
             Fault::ResultRoom => 0,
             Fault::SettingLength => 0,
             Fault::SettingByte(index) => index,

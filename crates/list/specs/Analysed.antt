@@ -8,7 +8,7 @@ use Rattle.analyse.specs.Promise.{Promise}
 use Rattle.analysis.specs.Analysis.{analysisFault, analysis, lengthIn}
 use Rattle.analysis.specs.Result.{resultOf}
 use Rattle.analysis.specs.Room.{resultRoom, fault-in-room}
-use Rattle.form.specs.Refusals.{Verdict, fine, fault, firstOf, refused, accepted, answer, numberOf, placeOf}
+use Rattle.form.specs.Refusals.{Verdict, fine, fault, refused, accepted, answer, numberOf, placeOf}
 use Rattle.form.specs.declared.Fault.{Fault}
 use Rattle.form.specs.declared.Reply.{Reply}
 use Rattle.form.specs.declared.Reply.the-variants as replies
@@ -19,7 +19,6 @@ use Rattle.network.specs.Layout.{Sound}
 use Rattle.network.specs.Lists.{switches-length}
 use Rattle.network.specs.Network.{edition, networkOf}
 use Rattle.network.specs.declared.Sections.{Sections}
-use Rattle.plan.specs.Measure.{operationsFault}
 use Rattle.stored.specs.Lengths.{result-end, result-three}
 use Rattle.stored.specs.Stored.{storedOf}
 use Rattle.stored.specs.StoredLaws.{stored-back}
@@ -50,7 +49,7 @@ Tells s after (replies.Accepted n) = Listed s after
 
 module _ (s before after : List ℕ) (room : length before ≡ resultRoom) where
   -- The listing goes by the analysis' own verdict.
-  fault-by : (v : Verdict) → analysisFault edition s (length before) ≡ v → firstOf (networkFault edition s) (operationsFault (networkOf s)) ≡ v
+  fault-by : (v : Verdict) → analysisFault edition s (length before) ≡ v → networkFault edition s ≡ v
   fault-by v e = let f = fault-in-room s in rw (← f, ← room, e)
 
   listing-by : (v : Verdict) → analysisFault edition s (length before) ≡ v → listing s ≡ listingFor v (networkOf s)

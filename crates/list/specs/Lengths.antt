@@ -5,11 +5,10 @@ use Prim.Native.Nat.{ℕ, _+_, _*_, _<_, _≤_}
 use native.Mathlib.Omega.{arith}
 use lib.ListN.{length, getD, length-append}
 use Rattle.analysis.specs.Result.{Stored, eliminated, resultIn}
-use Rattle.analysis.specs.Room.{resultRoom, fault-in-room, analysis-placed}
+use Rattle.analysis.specs.Room.{operations-most}
 use Rattle.form.specs.References.{formula}
-use Rattle.form.specs.Refusals.{Verdict, fine, fault, firstOf}
+use Rattle.form.specs.Refusals.{Verdict, fine, fault}
 use Rattle.form.specs.Placed.{placed-fault}
-use Rattle.form.specs.Verdicts.{first-fine}
 use Rattle.formula.specs.Make.{none}
 use Rattle.formula.specs.MakeLaws.{Orderly}
 use Rattle.links.specs.ListLaws.{vertex-at, vertices-long}
@@ -17,11 +16,11 @@ use Rattle.links.specs.Links.{Step}
 use Rattle.meaning.specs.Answers.{eliminated-standing}
 use Rattle.meaning.specs.Ranged.{layout-ranged}
 use Rattle.network.specs.Faults.{networkFault}
-use Rattle.network.specs.Layout.{sectionsOf, Sound}
+use Rattle.network.specs.Layout.{sectionsOf}
 use Rattle.network.specs.Lists.{variables-length, givens-length, starts-length, switches-length}
 use Rattle.network.specs.Network.{edition, networkOf}
+use Rattle.network.specs.Places.{network-placed}
 use Rattle.network.specs.Ranges.{in-range}
-use Rattle.plan.specs.Measure.{operations, operationsFault, operations-fine, operations-are}
 use Rattle.plan.specs.Plans.{planIn}
 use Rattle.sheet.specs.declared.Cell.the-variants.{Start}
 use Rattle.stored.specs.Stored.{joinsFigure, workFigure}
@@ -38,10 +37,10 @@ noStep = record { vertex = 0; degree = 0 }
 
 -- How many lines a result has at most, and how large their numbers are.
 record Limited (r : Stored) : Type 0 where
-  pub joins : joinsFigure r ≤ 10000
-  pub work : workFigure r ≤ 10000
+  pub joins : joinsFigure r ≤ 798
+  pub work : workFigure r ≤ 9200
   pub variables : length (r .variables) ≤ edition .variables
-  pub records : length (r .records) ≤ edition .givens + 10000
+  pub records : length (r .records) ≤ edition .givens + 9998
   pub orderly : Orderly (length (r .variables)) (r .records)
   pub answers : length (r .answers) ≤ edition .vertices
   pub answer : (v : ℕ) → v < length (r .answers) → getD (r .answers) v 0 < formula (length (r .variables)) (length (r .records))
@@ -74,26 +73,27 @@ module _ (r : Stored) (limited : Limited r) where
       (omega arith) (omega arith) (omega arith) (omega arith) (omega arith) in
       simp length-append (omega (arith, pivots-most, records-most, answers-most))
 
--- The result of an accepted file is so, where no more operations are asked than are allowed.
-result-limited : (s : List ℕ) → Sound edition s (sectionsOf s) → operations (networkOf s) ≤ 10000
-    → Limited (resultIn (networkOf s))
-unfolding resultIn operations stepsIn
-result-limited s sound few =
+-- The result of an accepted file is so.
+result-limited : (s : List ℕ) → networkFault edition s ≡ fine → Limited (resultIn (networkOf s))
+unfolding resultIn stepsIn
+result-limited s e =
+    let sound = in-range edition s e in
+    let few = operations-most s e in
     let net = networkOf s in
     let n = length (net .starts) in
     let found = planIn net in
     let layout = sound .layout in
     let standing = eliminated-standing net (layout-ranged s (sectionsOf s) layout) in
-    let fits = plan-fits s (sectionsOf s) layout (sound .within) found refl (omega (arith, operations-are net found refl)) in
+    let fits = plan-fits s (sectionsOf s) layout (sound .within) found refl in
     let order = steps-are net found refl in
     let pivots : length (resultIn net .order) ≡ n = rw (← order) (steps-long found n) in
     let answers = vertices-long (λ (v : ℕ). eliminated net .cells (Start v)) n in
     let vertices = starts-length layout in
     record {
-      joins = omega arith;
-      work = omega arith;
+      joins = few .0;
+      work = few .1;
       variables = omega (arith, variables-length layout);
-      records = omega (arith, givens-length layout);
+      records = omega (arith, standing .few, givens-length layout);
       orderly = standing .orderly;
       answers = omega arith;
       answer = λ v h. rw (vertex-at (λ (u : ℕ). eliminated net .cells (Start u)) n v 0 (omega arith)) (standing .there (Start v));
@@ -103,21 +103,18 @@ result-limited s sound few =
     }
 
 -- The lines of a result fit,
-pub lines-fit : (s : List ℕ) → firstOf (networkFault edition s) (operationsFault (networkOf s)) ≡ fine
+pub lines-fit : (s : List ℕ) → networkFault edition s ≡ fine
     → (switches : ℕ) → Short switches → length (resultLines switches (resultIn (networkOf s))) ≤ listingRoom
-lines-fit s e =
-    let h = first-fine _ _ e in
-    result-fits _ (result-limited s (in-range edition s (h .0)) (operations-fine (networkOf s) (h .1)))
+lines-fit s e = result-fits _ (result-limited s e)
 
 -- and so does every listing.
-listing-for : (s : List ℕ) (v : Verdict) → firstOf (networkFault edition s) (operationsFault (networkOf s)) ≡ v
-    → length (listingFor v (networkOf s)) ≤ listingRoom
+listing-for : (s : List ℕ) (v : Verdict) → networkFault edition s ≡ v → length (listingFor v (networkOf s)) ≤ listingRoom
 unfolding listingFor
 listing-for s fine e =
-    let sound = in-range edition s (first-fine _ _ e .0) in
+    let sound = in-range edition s e in
     lines-fit s e _ (omega (arith, switches-length (sound .layout), sound .within .switches))
 listing-for s (fault number place) e =
-    let placed = placed-fault 6656 _ number place (rw (fault-in-room s) at (analysis-placed s resultRoom)) e in
+    let placed = placed-fault 6656 _ number place (network-placed 6656 edition s (omega arith)) e in
     omega (arith, refused-most number place (omega (arith, placed .high)) (omega (arith, placed .inside)))
 
 pub listing-fits : (s : List ℕ) → length (listing s) ≤ listingRoom

@@ -5,11 +5,10 @@ use Prim.Native.Nat.{ℕ}
 use lib.Dec.{ltb}
 use lib.ListN.{length}
 use Rattle.analysis.specs.Result.{resultIn}
-use Rattle.form.specs.Refusals.{Verdict, fine, fault, firstOf}
+use Rattle.form.specs.Refusals.{Verdict, fine, fault}
 use Rattle.lines.specs.Lines.{resultLines}
 use Rattle.network.specs.Faults.{networkFault}
 use Rattle.network.specs.Network.{Network, edition, networkOf}
-use Rattle.plan.specs.Measure.{operationsFault}
 use Rattle.text.specs.Texts.{ascii, pairLine}
 
 -- A refusal prints `refused NUMBER at PLACE` alone.
@@ -21,9 +20,9 @@ unfoldable pub listingFor : Verdict → Network → List ℕ
 listingFor fine net = resultLines (length (net .switches)) (resultIn net)
 listingFor (fault number place) net = refusedLine number place
 
--- A byte string is refused by 1 to 7, then 8, or analysed, in room enough for any result.
+-- A byte string is refused by 1 to 7, or analysed, in room enough for any result.
 unfoldable pub listing : List ℕ → List ℕ
-listing s = let net = networkOf s in listingFor (firstOf (networkFault edition s) (operationsFault net)) net
+listing s = listingFor (networkFault edition s) (networkOf s)
 
 -- Room for any listing.
 abbrev pub listingRoom : ℕ

@@ -19,7 +19,7 @@ use reader::Checked;
 pub const LISTING_ROOM: usize = 262144;
 
 // Room for any result.
-const RESULT_ROOM: usize = 63560;
+const RESULT_ROOM: usize = 63548;
 
 // Puts the line of a refusal.
 fn put_refused(f: Fault, out: &mut [u8]) -> usize

@@ -15,15 +15,16 @@ use Rattle.links.specs.OrderLaws.{order-more}
 use Rattle.links.specs.Switches.{noLinks, linksFrom, joinsFrom, linksOf, joinsOf}
 use Rattle.network.specs.Network.{side, edition, networkOf}
 use Rattle.network.specs.Layout.{Layout, Within}
-use Rattle.network.specs.Lists.{starts-length, switches-length}
+use Rattle.network.specs.Lists.{starts-length}
 use Rattle.network.specs.declared.Sections.{Sections}
 use Rattle.sheet.specs.Asks.{work}
 use Rattle.plan.specs.declared.Plan.{Plan}
 use Rattle.plan.specs.declared.Stepped.{Stepped}
 use Rattle.plan.specs.Matrix.{linksIn, remaining, remaining-all, remaining-set, remaining-up, none-linked}
 use Rattle.plan.specs.Degree.{degreeIn}
+use Rattle.plan.specs.Measure.{Bounded, plan-bounded}
 use Rattle.plan.specs.Wire.{Wired}
-use Rattle.plan.specs.Plans.{degreesOf, planFor, planIn, workMost, joinsMost}
+use Rattle.plan.specs.Plans.{degreesOf, planFor, planIn}
 use Rattle.plan.specs.Rows.{Writing, writing-none, writing-more, writing-done}
 use Rattle.plan.specs.Work.{pivotAsked, pivotMost}
 
@@ -107,15 +108,10 @@ module _ (n : ℕ) (few : n ≤ side) where
         → Planning g n links′ rest′ (set taken k (t .vertex)) (set degrees k (t .degree)) (sum + t .work) (k + 1)
     planning-more h links′ rest′ t step = rw add-one (next h links′ rest′ t step)
 
--- The plan of n vertices with these links, and what bounds it.
-pub record Planned (n : ℕ) (g : Graph) (joins : ℕ) (r : Plan) : Type 0 where
-  pub is : r ≡ planFor n g joins
-  pub joined : r .joins ≡ joins
-  pub most : r .work ≤ workMost
-
+-- The plan of n vertices with these links.
 pub planned : (g : Graph) (n : ℕ) → n ≤ side → (links rest taken degrees : List ℕ) (sum k joins : ℕ)
     → Planning g n links rest taken degrees sum k → n ≤ k → (r : Plan)
-    → r ≡ record { order = taken; degrees = degrees; work = sum; joins = joins } → Planned n g joins r
+    → r ≡ record { order = taken; degrees = degrees; work = sum; joins = joins } → r ≡ planFor n g joins
 unfolding planFor orderLeft plan work
 planned g n few links rest taken degrees sum k joins inv h r e =
     let z : n - k ≡ 0 = omega arith in
@@ -123,18 +119,18 @@ planned g n few links rest taken degrees sum k joins inv h r e =
     let o = writing-done (order n g) taken k (rw z at (inv .orders)) m in
     let d = writing-done (degreesOf (steps g (vertices n) (order n g))) degrees k (rw z at (inv .figures)) m in
     let w : sum ≡ workOf n g = omega (arith, rw z at (inv .worked)) in
-    record { is = e ∙ rw (o, d, w); joined = rw e; most = rw e (omega (arith, inv .most)) }
+    e ∙ rw (o, d, w)
 
 -- The plan of an accepted file, by what `plan_of` knows.
 module _ (s : List ℕ) (parts : Sections) (layout : Layout s parts) (start links : List ℕ) (e : start ≡ replicate (side * side) 0)
-    (joins : ℕ) (w : Wired (networkOf s .switches) start links joins) (r : Plan) (p : Planned (parts .vertices) (linksIn links) joins r) where
+    (joins : ℕ) (w : Wired (networkOf s .switches) start links joins) (r : Plan) (p : r ≡ planFor (parts .vertices) (linksIn links) joins) where
   pub plan-made : r ≡ planIn (networkOf s)
   unfolding planIn linksOf joinsOf
   plan-made =
       let z : linksIn start ≡ noLinks = rw e none-linked in
       let g = w .graph ∙ ap (λ (x : Graph). linksFrom x (networkOf s .switches)) z in
       let j = w .joins ∙ ap (λ (x : Graph). joinsFrom x (networkOf s .switches)) z in
-      rw (starts-length layout, ← g, ← j) (p .is)
+      rw (starts-length layout, ← g, ← j) p
 
-  pub plan-joins : Within edition parts → r .joins ≤ joinsMost
-  plan-joins within = omega (arith, p .joined, w .most, switches-length layout, within .switches)
+  pub plan-few : Within edition parts → Bounded edition (r .joins) (r .work)
+  plan-few within = plan-bounded edition s parts layout within r plan-made

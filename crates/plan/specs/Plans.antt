@@ -1,14 +1,13 @@
 -- The plan of a network, as the code hands it over.
 use mathlib.Core.List.{List, _++_, map}
-use Prim.Native.Nat.{ℕ, _*_, _-_, _≤_}
+use Prim.Native.Nat.{ℕ, _-_}
 use lib.ListN.{length, replicate}
 use Rattle.elimination.specs.Plan.{workOf}
 use Rattle.links.specs.Lists.{vertices}
 use Rattle.links.specs.Links.{Graph, Step, order, steps}
 use Rattle.links.specs.Switches.{linksOf, joinsOf}
-use Rattle.network.specs.Network.{Network, side, edition}
+use Rattle.network.specs.Network.{Network, side}
 use Rattle.plan.specs.declared.Plan.{Plan}
-use Rattle.plan.specs.Work.{pivotMost}
 
 -- Zeros beyond the last vertex.
 unfoldable pub padded : List ℕ → List ℕ
@@ -31,16 +30,3 @@ planFor n g joins =
 -- The plan of a network.
 unfoldable pub planIn : Network → Plan
 planIn net = planFor (length (net .starts)) (linksOf (net .switches)) (joinsOf (net .switches))
-
--- No file has more joins: two for each switch.
-abbrev pub joinsMost : ℕ
-joinsMost = 2 * edition .switches
-
--- No plan has more work. The bound is rough.
-abbrev pub workMost : ℕ
-workMost = pivotMost * side
-
--- The numbers of a plan are within these bounds.
-pub record Bounded (found : Plan) : Type 0 where
-  pub joins : found .joins ≤ joinsMost
-  pub work : found .work ≤ workMost

@@ -12,9 +12,9 @@ ghost use Rattle.plan.specs.Work.{labelAsked, neighbourAsked, pivotAsked
 ghost use Rattle.plan.specs.Scan.{turn, Takes};
 ghost use Rattle.plan.specs.Gone.{joinedBy};
 ghost use Rattle.plan.specs.Wire.{Connects, Wired};
-ghost use Rattle.plan.specs.Plans.{planIn, Bounded};
-ghost use Rattle.plan.specs.Measure.{overIn, roomIn};
-ghost use Rattle.plan.specs.Planned.{Steps, Planned};
+ghost use Rattle.plan.specs.Plans.{planFor, planIn};
+ghost use Rattle.plan.specs.Measure.{Bounded, roomIn};
+ghost use Rattle.plan.specs.Planned.{Steps};
 use network::SIDE;
 use network::Sections;
 use network::Switch;
@@ -246,7 +246,7 @@ fn step(links: &mut [u8; TABLE], rest: &mut [u8; SIDE], n: usize) -> Stepped
 // Eliminates n vertices by rule M, one by one.
 fn eliminate_all(links: &mut [u8; TABLE], n: usize, joins: usize) -> Plan
     requires { ⌜ (n ≤ side) × (length (now links) ≡ side * side) ⌝ }
-    ensures { λ r. ⌜ Planned n (linksIn (now (links .entry))) joins r ⌝ }
+    ensures { λ r. ⌜ r ≡ planFor n (linksIn (now (links .entry))) joins ⌝ }
 {
     let mut rest = [1; SIDE];
     let mut order = [0; SIDE];
@@ -273,25 +273,17 @@ pub fn plan_of(file: &[u8], parts: Sections) -> Plan
     requires { ⌜ Layout (now file) parts ⌝ }
     requires { ⌜ Within edition parts ⌝ }
     ensures { λ r. ⌜ r ≡ planIn (networkOf (now (file .entry))) ⌝ }
-    ensures { λ r. ⌜ Bounded r ⌝ }
+    ensures { λ r. ⌜ Bounded edition (r .joins) (r .work) ⌝ }
 {
     let mut links = [0; TABLE];
     let joins = wire(file, parts, &mut links);
     eliminate_all(&mut links, parts.vertices, joins)
 }
 
-// Whether a plan asks for more operations than are allowed.
-pub fn over(found: Plan) -> bool
-    requires { ⌜ Bounded found ⌝ }
-    ensures { λ r. ⌜ r ≡ overIn found ⌝ }
-{
-    found.joins + found.work > 10000
-}
-
 // The room that the result of an accepted file needs.
 pub fn room_for(parts: Sections, found: Plan) -> usize
     requires { ⌜ Within edition parts ⌝ }
-    requires { ⌜ Bounded found ⌝ }
+    requires { ⌜ Bounded edition (found .joins) (found .work) ⌝ }
     ensures { λ r. ⌜ r ≡ roomIn parts found ⌝ }
 {
     16 + 2 * parts.variables + 6 * (parts.givens + found.joins + found.work) + 6 * parts.vertices

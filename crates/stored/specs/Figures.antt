@@ -6,7 +6,7 @@ use Prim.Native.Nat.{ℕ, _+_, _*_, _<_, _≤_}
 use native.Mathlib.Omega.{arith}
 use lib.ListN.{length, getD, take}
 use Rattle.analysis.specs.Result.{Stored, resultIn}
-use Rattle.costs.specs.Bounds.{full-closed, work-most}
+use Rattle.costs.specs.Bounds.{work-cubic}
 use Rattle.costs.specs.Built.{Built}
 use Rattle.costs.specs.Closed.{costs, work-closed}
 use Rattle.costs.specs.SeriesParallel.{built-iff, built-work}
@@ -59,7 +59,7 @@ result-figures net ranged =
       joins = refl;
       work = refl;
       cost = work-closed g symmetric (vertices n) (order n g) (upTo-ascending n 0);
-      most = omega (arith, work-most n n (omega arith) g, full-closed n);
+      most = work-cubic n n (omega arith) g;
       few = eliminated-standing net ranged .few;
       needed = eliminated-standing net ranged .orderly .needed;
       narrow = built-iff n g symmetric;

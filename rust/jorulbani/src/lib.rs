@@ -43,7 +43,7 @@ use refusal::decoded;
 use std::io;
 
 /// Bytes that are proved to be enough for every result.
-pub const RESULT_ROOM: usize = 63_560;
+pub const RESULT_ROOM: usize = 63_548;
 
 /// Bytes that are enough for every direct answer: one for each vertex.
 pub const ANSWER_ROOM: usize = 24;
@@ -55,7 +55,7 @@ const LISTING_ROOM: usize = 262_144;
 ///
 /// # Errors
 ///
-/// The file's refusal, 1 to 8.
+/// The file's refusal, 1 to 7.
 pub fn analyse(file: &[u8]) -> Result<Vec<u8>, Refusal> {
     let mut out = vec![0; RESULT_ROOM];
     let len = analyse_into(file, &mut out)?;
@@ -67,7 +67,7 @@ pub fn analyse(file: &[u8]) -> Result<Vec<u8>, Refusal> {
 ///
 /// # Errors
 ///
-/// The file's refusal, 1 to 8, or 9 where `out` is too small for its result. All of `out` stays as it came.
+/// The file's refusal, 1 to 7, or 9 where `out` is too small for its result. All of `out` stays as it came.
 pub fn analyse_into(file: &[u8], out: &mut [u8]) -> Result<usize, Refusal> {
     decoded(door::analyse(file, out), out.len())
 }

@@ -3,7 +3,7 @@
 use std::error::Error;
 use std::fmt;
 
-/// Why a call was refused. The refusal's number is the cause's place in this list, counted from 1.
+/// Why a call was refused. A cause's value is the refusal's number; 8 is unused.
 #[derive(Debug, Clone, Copy, PartialEq, Eq, Hash)]
 pub enum Cause {
     /// 1: the file ends inside or before a count or entry.
@@ -20,10 +20,8 @@ pub enum Cause {
     End,
     /// 7: there are bytes after the switches.
     Trailing,
-    /// 8: joins plus work are above 10,000.
-    Work,
     /// 9: the room for the result is too small.
-    ResultRoom,
+    ResultRoom = 9,
     /// 10: the setting's length is not the number of variables.
     SettingLength,
     /// 11: a byte of the setting is not 0 or 1.
@@ -33,7 +31,7 @@ pub enum Cause {
 }
 
 impl Cause {
-    const ALL: [Cause; 12] = [
+    const ALL: [Cause; 11] = [
         Cause::Cut,
         Cause::Count,
         Cause::Coil,
@@ -41,14 +39,13 @@ impl Cause {
         Cause::Reference,
         Cause::End,
         Cause::Trailing,
-        Cause::Work,
         Cause::ResultRoom,
         Cause::SettingLength,
         Cause::SettingByte,
         Cause::AnswerRoom,
     ];
 
-    /// The refusal's number, 1 to 12.
+    /// The refusal's number: 1 to 7, or 9 to 12.
     pub fn number(self) -> u32 {
         self as u32
     }
@@ -69,7 +66,6 @@ impl Cause {
             Cause::Reference => "reference not defined there, or second argument of not is not 0",
             Cause::End => "switch end is not a vertex",
             Cause::Trailing => "bytes after the switches",
-            Cause::Work => "joins plus work above 10,000",
             Cause::ResultRoom => "result room too small",
             Cause::SettingLength => "setting's length is not the number of variables",
             Cause::SettingByte => "setting byte not 0 or 1",
@@ -101,7 +97,7 @@ impl Refusal {
         self.cause
     }
 
-    /// The refusal's number, 1 to 12.
+    /// The refusal's number: 1 to 7, or 9 to 12.
     pub fn number(&self) -> u32 {
         self.cause.number()
     }
@@ -130,7 +126,7 @@ impl fmt::Display for Refusal {
             }
             Cause::Trailing => write!(f, " (the first at byte {place})"),
             Cause::SettingByte => write!(f, " (index {place} of the setting)"),
-            Cause::Work | Cause::ResultRoom | Cause::SettingLength | Cause::AnswerRoom => Ok(()),
+            Cause::ResultRoom | Cause::SettingLength | Cause::AnswerRoom => Ok(()),
         }
     }
 }
@@ -166,7 +162,7 @@ mod tests {
 
     #[test]
     fn refusals_are_decoded() {
-        for (number, cause) in (1..).zip(Cause::ALL) {
+        for (number, cause) in (1..=7).chain(9..=12).zip(Cause::ALL) {
             let refusal = decoded(number * UPPER + 6_656, 0).unwrap_err();
             assert_eq!(refusal.cause(), cause);
             assert_eq!(u64::from(refusal.number()), number);
@@ -178,6 +174,12 @@ mod tests {
     fn the_largest_place_is_decoded() {
         let refusal = decoded(11 * UPPER + 0xffff_ffff, 0).unwrap_err();
         assert_eq!((refusal.number(), refusal.place()), (11, 0xffff_ffff));
+    }
+
+    #[test]
+    #[should_panic(expected = "bug: the proved library answered 0x800000000")]
+    fn the_number_eight_is_a_bug() {
+        let _ = decoded(8 * UPPER, 0);
     }
 
     #[test]
@@ -204,7 +206,6 @@ mod tests {
             (5, 12, "refused 5 at 12: reference not defined there, or second argument of not is not 0 (the number at byte 12)"),
             (6, 18, "refused 6 at 18: switch end is not a vertex (the number at byte 18)"),
             (7, 8, "refused 7 at 8: bytes after the switches (the first at byte 8)"),
-            (8, 0, "refused 8 at 0: joins plus work above 10,000"),
             (9, 0, "refused 9 at 0: result room too small"),
             (10, 0, "refused 10 at 0: setting's length is not the number of variables"),
             (11, 3, "refused 11 at 3: setting byte not 0 or 1 (index 3 of the setting)"),

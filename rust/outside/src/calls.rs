@@ -49,7 +49,7 @@ const LIST: Call = Call {
 # many lines as it takes; then each line of the listing, after '| '. A blank line stands between two vectors.
 # No text here comes from the proved program: each listing is that of rust/reference, which was written from the outline alone.
 # 'rust/target/release/vectors write listings' prints this file, and 'rust/target/release/vectors' compares with it.
-# Refusals 8 to 12 are not here: no file of this edition meets 8, and 9 to 12 are not a file's: results.txt and direct.txt have those.
+# Refusals 1 to 7 are here. 8 is unused, and 9 to 12 are not a file's: results.txt and direct.txt have those.
 ",
         fields: &[FILE],
         least: 200,
@@ -76,7 +76,7 @@ const ANALYSE: Call = Call {
 # The result is put at the front of what is lent. The bytes behind it stay as they came, and after a refusal all of them do.
 # No text here comes from the proved program: each is that of rust/reference, which was written from the outline alone.
 # 'rust/target/release/vectors write results' prints this file, and 'rust/target/release/vectors' compares with it.
-# Refusals 1 to 7 and 9 are here: no file of this edition meets 8, and 10 to 12 are not of this call.
+# Refusals 1 to 7 and 9 are here: 8 is unused, and 10 to 12 are not of this call.
 ",
         fields: &[FILE, ROOM],
         least: 300,
@@ -107,7 +107,7 @@ const DIRECT: Call = Call {
 # The answer is put at the front of what is lent. The bytes behind it stay as they came, and after a refusal all of them do.
 # No text here comes from the proved program: each is that of rust/reference, which was written from the outline alone.
 # 'rust/target/release/vectors write direct' prints this file, and 'rust/target/release/vectors' compares with it.
-# Refusals 1 to 7 and 10 to 12 are here, alone and together: 8 and 9 are not of this call.
+# Refusals 1 to 7 and 10 to 12 are here, alone and together: 8 is unused, and 9 is not of this call.
 ",
         fields: &[FILE, SETTING, ROOM],
         least: 250,

@@ -1,6 +1,6 @@
 //! Wiring files made by hand for the stored vectors, each with a name that says what it shows.
 //!
-//! Of the refusals, 1 to 7 are here: no file of this edition meets 8, and 9 to 12 are not a file's: see [`crate::rooms`] and
+//! Of the refusals, 1 to 7 are here: 8 is unused, and 9 to 12 are not a file's: see [`crate::rooms`] and
 //! [`crate::settings`].
 
 use crate::dressing::wired;

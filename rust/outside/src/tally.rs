@@ -19,8 +19,8 @@ pub struct Tally {
     pub outcomes: [Outcomes; KINDS.len()],
 }
 
-/// Joins and work are at most 798 and 9,200 together, below the bound of 10,000 that refusal 8 speaks of.
-const NOT_IN_THIS_EDITION: usize = 8;
+/// The number that no refusal has.
+const UNUSED: usize = 8;
 
 impl Tally {
     /// Adds another worker's counts.
@@ -52,14 +52,14 @@ impl Tally {
         for (number, count) in self.refusals.iter().enumerate().skip(1) {
             lines += &format!(" {number}: {count}");
         }
-        lines + "\n(8 cannot arise in this edition: joins and work are at most 9,200 + 798, its bound is 10,000)\n"
+        lines + "\n(8 is unused)\n"
     }
 
     /// What a run must show and this one did not.
     pub fn missing(&self) -> Vec<String> {
         let mut missing = Vec::new();
         for (number, &count) in self.refusals.iter().enumerate().skip(1) {
-            if (count == 0) != (number == NOT_IN_THIS_EDITION) {
+            if (count == 0) != (number == UNUSED) {
                 missing.push(format!("refusal {number} was seen {count} times"));
             }
         }

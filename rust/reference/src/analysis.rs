@@ -1,10 +1,8 @@
-//! The analysis (the outline, "Links, order, work" and "The result form") with refusals 8 and 9.
+//! The analysis (the outline, "Links, order, work" and "The result form") with refusal 9.
 
 use crate::form::{Network, Switch};
 use crate::formula::{Formulas, Record, Reference};
 use crate::Refusal;
-
-const OPERATIONS: usize = 10_000;
 
 /// A vertex as it was taken from the remaining ones, with its remaining neighbours then, ascending.
 pub struct Pivot {
@@ -30,8 +28,8 @@ pub struct Analysis<'a> {
 }
 
 impl<'a> Analysis<'a> {
-    /// Pivots until no vertex remains, then the answers "from last pivot to first", then the test of 8.
-    pub fn of(network: &'a Network) -> Result<Analysis<'a>, Refusal> {
+    /// Pivots until no vertex remains, then the answers "from last pivot to first".
+    pub fn of(network: &'a Network) -> Analysis<'a> {
         let mut system = System::of(network);
         let mut order = Vec::with_capacity(network.starts.len());
         while let Some(pivot) = system.choose() {
@@ -41,15 +39,14 @@ impl<'a> Analysis<'a> {
         for pivot in order.iter().rev() {
             system.substitute(pivot);
         }
-        test_operations(system.joins, system.work)?;
-        Ok(Analysis {
+        Analysis {
             network,
             order,
             answers: system.value,
             joins: system.joins,
             work: system.work,
             formulas: system.formulas,
-        })
+        }
     }
 
     /// The records made, in order: "records that no vertex needs stay".
@@ -89,17 +86,6 @@ impl<'a> Analysis<'a> {
         write_section(&mut out, figures.iter().map(|&figure| [number(figure)]));
         Ok(out)
     }
-}
-
-/// 8: "joins plus work above 10,000". The counts of the form keep the sum at 9,200 + 798 or less.
-fn test_operations(joins: usize, work: usize) -> Result<(), Refusal> {
-    if joins + work > OPERATIONS {
-        return Err(Refusal {
-            number: 8,
-            place: 0,
-        });
-    }
-    Ok(())
 }
 
 /// One section of the result form: its count, then its entries.
@@ -259,18 +245,6 @@ fn translate(formulas: &mut Formulas, variables: usize, given: &[Record]) -> Vec
 mod tests {
     use super::*;
     use crate::tests::{wiring, Xorshift};
-
-    /// 8 is given above 10,000 and not at it; no file reaches it, so the test itself is called.
-    #[test]
-    fn operations_above_ten_thousand() {
-        let refusal = Refusal {
-            number: 8,
-            place: 0,
-        };
-        assert_eq!(test_operations(800, 9_200), Ok(()));
-        assert_eq!(test_operations(801, 9_200), Err(refusal));
-        assert_eq!(test_operations(0, 10_001), Err(refusal));
-    }
 
     /// The neighbours of a vertex in a plain matrix of links, ascending.
     fn linked_vertices(links: &[Vec<bool>], vertex: usize) -> Vec<usize> {

@@ -20,16 +20,16 @@ pub use result::truths;
 /// "A refusal returns its number and place": the number of the outline's table, and a byte offset, an index or 0.
 #[derive(Debug, Clone, Copy, PartialEq, Eq)]
 pub struct Refusal {
-    /// The cause, 1 to 12.
+    /// The cause, 1 to 12; "keep number 8 unused".
     pub number: u32,
     /// Where the cause stands, as the outline's table says for each number.
     pub place: usize,
 }
 
-/// The result's bytes, or the first refusal of 1 to 7, "then 8, then 9".
+/// The result's bytes, or the first refusal of 1 to 7, then 9: "9 follows 7".
 pub fn analyse(file: &[u8], room: usize) -> Result<Vec<u8>, Refusal> {
     let network = Network::read(file)?;
-    Analysis::of(&network)?.bytes(room)
+    Analysis::of(&network).bytes(room)
 }
 
 /// One byte, 1 or 0, for each vertex, or the first refusal of "1 to 7, then 10, 11 (lowest index), 12".
@@ -42,12 +42,12 @@ pub fn direct(file: &[u8], setting: &[u8], room: usize) -> Result<Vec<u8>, Refus
 /// The listing's text; "a refusal prints `refused NUMBER at PLACE` alone".
 pub fn listing(file: &[u8]) -> String {
     Network::read(file)
-        .and_then(|network| Ok(listing::text(&Analysis::of(&network)?)))
+        .map(|network| listing::text(&Analysis::of(&network)))
         .unwrap_or_else(listing::refused)
 }
 
-/// "Room needed for a result", or the first refusal of 1 to 8.
+/// "Room needed for a result", or the first refusal of 1 to 7.
 pub fn room_needed(file: &[u8]) -> Result<usize, Refusal> {
     let network = Network::read(file)?;
-    Ok(Analysis::of(&network)?.room())
+    Ok(Analysis::of(&network).room())
 }

@@ -1,5 +1,5 @@
 -- `analyse::answer` meets its contract: at each return, the law of that way out.
-use Rattle.analyse.specs.Promise.{analyse-over, analyse-room, analyse-able, analyse-done}
+use Rattle.analyse.specs.Promise.{analyse-room, analyse-able, analyse-done}
 use borrow.Author.Needs.{needs}
 use Rattle.analyse.proofs.answer.Statement.{statement}
 use Rattle.analyse.proofs.answer.Tie as tie
@@ -9,8 +9,6 @@ answer-spec =
     tie.close
     (tie.spec
     (λ c κs. search needs)
-    (λ c κs. search needs)
-    (λ c. search (analyse-over, needs))
     (λ c κs. search needs)
     (λ c. search (analyse-room, needs))
     (λ c κs. search (analyse-able, needs))

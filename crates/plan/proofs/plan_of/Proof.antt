@@ -1,5 +1,5 @@
 -- `plan::plan_of` meets its contract: the links, and then the elimination.
-use Rattle.plan.specs.Planned.{plan-made, plan-joins}
+use Rattle.plan.specs.Planned.{plan-made, plan-few}
 use borrow.Author.Needs.{needs}
 use Rattle.plan.proofs.plan_of.Statement.{statement}
 use Rattle.plan.proofs.plan_of.Tie as tie
@@ -10,4 +10,4 @@ plan-of-spec =
     (tie.spec
     (λ c κs. search needs)
     (λ c κs. search needs)
-    (λ c. search (plan-made, plan-joins, needs)))
+    (λ c. search (plan-made, plan-few, needs)))

@@ -1,4 +1,4 @@
-//! Refusals 1 to 12 except 8, each with its place. (8 is beside its test, in the analysis.)
+//! Refusals 1 to 7 and 9 to 12, each with its place.
 
 use super::{longest_file, refused, wiring};
 use crate::{analyse, direct, listing, room_needed};
