@@ -1,10 +1,11 @@
 -- The three demands on the analyser, about every call of `analyse` and of `direct`. Each is derived in a line or two from where it is proved.
 use mathlib.Core.Path.{_≡_}
 use mathlib.Core.Logic.{_↔_}
-use mathlib.Core.Bool.{So}
+use mathlib.Core.Bool.{true, false, So}
 use mathlib.Core.List.{List, [], _∷_, _++_, List·Memᴰ}
 use Prim.Native.Nat.{ℕ, _+_, _*_, _<_, _≤_}
 use native.Mathlib.Omega.{arith}
+use lib.Dec.{eqb}
 use lib.ListN.{length, getD, take, drop}
 use Rattle.analyse.specs.Promise as analyse
 use Rattle.analyse.specs.Unique as analysed
@@ -20,7 +21,10 @@ use Rattle.elimination.specs.Plan.{workOf}
 use Rattle.form.specs.Refusals.{fine, refused, accepted, replyOf}
 use Rattle.form.specs.Verdicts as verdicts
 use Rattle.form.specs.declared.Reply.{Reply}
-use Rattle.formula.specs.Make.{none, make}
+use Rattle.form.specs.References.{kindNot, constantTrue, formula}
+use Rattle.form.specs.declared.Record.{Record}
+use Rattle.formula.specs.Make.{none, named, old, holds, absorbed, make}
+use Rattle.formula.specs.MakeLaws.{Orderly, absorbs}
 use Rattle.links.specs.Links.{Graph, Step, order, steps}
 use Rattle.links.specs.Lists.{vertices}
 use Rattle.links.specs.Switches.{linksOf, joinsOf}
@@ -100,11 +104,14 @@ module _ (s before after : List ℕ) (r : Reply) (call : analyse.Promise s befor
     pub records-few : length (stored .records) ≤ givensFigure stored + joinsFigure stored + workFigure stored
     records-few = analyse.told-answered call written is .figures .few
 
-    -- Making a stored record out of those before it adds it: no rule, absorption among them, gives a reference that is there. Ruled out: a record that
-    -- the rules spare, such as coil 7 or (coil 7 and coil 9).
+    -- A stored record's arguments are older than itself, and making it out of those before it adds it: no rule, absorption among them, gives a reference
+    -- that is there. Ruled out: a record that the rules spare, such as coil 7 or (coil 7 and coil 9).
+    pub records-in-order : Orderly (length (stored .variables)) (stored .records)
+    records-in-order = analyse.told-answered call written is .figures .orderly
+
     pub records-needed : (k : ℕ) → k < length (stored .records) → let x = getD (stored .records) k none in
         make (length (stored .variables)) (x .kind) (x .first) (x .second) (take k (stored .records)) .added ≡ x ∷ []
-    records-needed = analyse.told-answered call written is .figures .needed
+    records-needed = records-in-order .needed
 
     -- A network is built from nothing by adding terminals, each linked to none, to one, or to two that are then linked to each other (that link kept
     -- or dropped), exactly when no reported pivot has over two neighbours left, and then costs at most twelve a vertex. Ruled out: pivots out of turn.
@@ -113,6 +120,13 @@ module _ (s before after : List ℕ) (r : Reply) (call : analyse.Promise s befor
 
     pub built-work-twelve : Built g (vertices n) → workFigure stored ≤ 12 * n
     built-work-twelve = analyse.told-answered call written is .figures .twelve
+
+-- Absorption, over records in order: an argument of and or or, no constant, that is held by the record which the other argument names, gives a for
+-- a or (a and c) and a and (a or c), and that record itself for a or (a or c) and a and (a and c), whichever argument comes first.
+pub held-is-absorbed : (p : ℕ) (records : List Record) → Orderly p records → (kind a b : ℕ) → eqb kind kindNot ≡ false → constantTrue < a
+    → b < formula p (length records) → holds a (named p b records) ≡ true
+    → let o = old (absorbed kind a b (named p b records)) in (make p kind a b records ≡ o) × (make p kind b a records ≡ o)
+held-is-absorbed = absorbs
 
 -- Refusal 8, joins plus work above 10,000, cannot arise: of every file without a fault of 1 to 7, joins are at most 798 and the work is at most 9,200,
 -- together at most 9,998, and its result never needs more than 63,548 bytes. Both bounds are those of any limits, at 400 switches and 24 vertices.

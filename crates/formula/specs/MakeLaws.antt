@@ -1,4 +1,4 @@
--- What an operation on references keeps: records stay in order, and the reference that is given is there.
+-- What an operation on references keeps: records stay in order, each of them needed, and the reference that is given is there. Absorption.
 use mathlib.Core.Path.{_≡_, refl, sym, ap, _∙_}
 use mathlib.Core.Bool.{true, false, not, cond, false≢true, _||_}
 use mathlib.Core.Logic.{⊎-elim}
@@ -24,7 +24,7 @@ pub record Earlier (own : ℕ) (r : Record) : Type 0 where
 abbrev pub Needed : ℕ → List Record → Record → Type 0
 Needed p records x = make p (x .kind) (x .first) (x .second) records .added ≡ x ∷ []
 
--- So it is of each record and those before it.
+-- Each record's arguments are older than itself, and making it out of those before it adds it.
 pub record Orderly (p : ℕ) (records : List Record) : Type 0 where
   pub earlier : (k : ℕ) → k < length records → Earlier (formula p k) (getD records k none)
   pub needed : (k : ℕ) → k < length records → Needed p (take k records) (getD records k none)
@@ -60,7 +60,7 @@ module _ (p : ℕ) (records : List Record) (orderly : Orderly p records) where
   pub keeps-old : (most r : ℕ) → r < formula p (length records) → Keeps p most records (old r)
   keeps-old most r h = record { few = omega arith; below = omega arith; orderly = rw (append-nil records) orderly }
 
-  -- One record more that is made by no rule before 6.
+  -- One record more, which is needed.
   orderly-more : (x : Record) → Earlier (formula p (length records)) x → Needed p records x → Orderly p (records ++ (x ∷ []))
   orderly-more x e n =
       record {

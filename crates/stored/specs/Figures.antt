@@ -2,17 +2,16 @@
 use mathlib.Core.Path.{_≡_, refl}
 use mathlib.Core.Logic.{_↔_}
 use mathlib.Core.List.{List·Memᴰ}
-use Prim.Native.Nat.{ℕ, _+_, _*_, _<_, _≤_}
+use Prim.Native.Nat.{ℕ, _+_, _*_, _≤_}
 use native.Mathlib.Omega.{arith}
-use lib.ListN.{length, getD, take}
+use lib.ListN.{length}
 use Rattle.analysis.specs.Result.{Stored, resultIn}
 use Rattle.costs.specs.Bounds.{work-cubic}
 use Rattle.costs.specs.Built.{Built}
 use Rattle.costs.specs.Closed.{costs, work-closed}
 use Rattle.costs.specs.SeriesParallel.{built-iff, built-work}
 use Rattle.elimination.specs.Plan.{workOf}
-use Rattle.formula.specs.Make.{none}
-use Rattle.formula.specs.MakeLaws.{Needed}
+use Rattle.formula.specs.MakeLaws.{Orderly}
 use Rattle.links.specs.Lists.{vertices}
 use Rattle.links.specs.Links.{Graph, Step, order, steps}
 use Rattle.links.specs.ListLaws.{upTo-ascending}
@@ -32,7 +31,7 @@ graphOf net = linksOf (net .switches)
 
 -- The pivots are rule M's; given formulas and joins are the file's. The work is the number of operations that figure 1 asks for on the bare links,
 -- the sum of 2d + 2d² − 2f over the pivots, and at most 2(n³ − n)/3, the sum of 2d + 2d² over all d below n. Records never exceed given formulas plus
--- joins plus work, and making each out of those before it adds it. No pivot has over two neighbours left exactly when the network is built by adding
+-- joins plus work, and are in order, each of them needed. No pivot has over two neighbours left exactly when the network is built by adding
 -- terminals, and then the work is at most 12 a vertex.
 pub record Figures (net : Network) (r : Stored) : Type 0 where
   pub pivots : r .order ≡ steps (graphOf net) (vertices (verticesOf net)) (order (verticesOf net) (graphOf net))
@@ -42,7 +41,7 @@ pub record Figures (net : Network) (r : Stored) : Type 0 where
   pub cost : workFigure r ≡ costs (graphOf net) (vertices (verticesOf net)) (order (verticesOf net) (graphOf net))
   pub most : 3 * workFigure r + 2 * verticesOf net ≤ 2 * verticesOf net * verticesOf net * verticesOf net
   pub few : length (r .records) ≤ givensFigure r + joinsFigure r + workFigure r
-  pub needed : (k : ℕ) → k < length (r .records) → Needed (length (r .variables)) (take k (r .records)) (getD (r .records) k none)
+  pub orderly : Orderly (length (r .variables)) (r .records)
   pub narrow : Built (graphOf net) (vertices (verticesOf net)) ↔ ((p : Step) → List·Memᴰ p (r .order) → p .degree ≤ 2)
   pub twelve : Built (graphOf net) (vertices (verticesOf net)) → workFigure r ≤ 12 * verticesOf net
 
@@ -61,7 +60,7 @@ result-figures net ranged =
       cost = work-closed g symmetric (vertices n) (order n g) (upTo-ascending n 0);
       most = work-cubic n n (omega arith) g;
       few = eliminated-standing net ranged .few;
-      needed = eliminated-standing net ranged .orderly .needed;
+      orderly = eliminated-standing net ranged .orderly;
       narrow = built-iff n g symmetric;
       twelve = built-work n g symmetric;
     }
