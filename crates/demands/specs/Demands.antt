@@ -1,4 +1,5 @@
--- The three demands on the analyser, about every call of `analyse` and of `direct`. Each is derived in a line or two from where it is proved.
+-- The three demands on the analyser, about every call of `analyse` and of `direct`, and what the requests say must hold. Each is derived in a line or two
+-- from where it is proved.
 use mathlib.Core.Path.{_≡_}
 use mathlib.Core.Logic.{_↔_}
 use mathlib.Core.Bool.{true, false, So}
