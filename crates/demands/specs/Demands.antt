@@ -24,7 +24,8 @@ use Rattle.form.specs.Verdicts as verdicts
 use Rattle.form.specs.declared.Reply.{Reply}
 use Rattle.form.specs.References.{kindNot, constantTrue, formula}
 use Rattle.form.specs.declared.Record.{Record}
-use Rattle.formula.specs.Make.{none, named, old, holds, absorbed, make}
+use Rattle.formula.specs.Distinct.{distinct}
+use Rattle.formula.specs.Make.{none, same, named, old, holds, absorbed, make}
 use Rattle.formula.specs.MakeLaws.{Orderly, absorbs}
 use Rattle.links.specs.Links.{Graph, Step, order, steps}
 use Rattle.links.specs.Lists.{vertices}
@@ -113,6 +114,11 @@ module _ (s before after : List ℕ) (r : Reply) (call : analyse.Promise s befor
     pub records-needed : (k : ℕ) → k < length (stored .records) → let x = getD (stored .records) k none in
         make (length (stored .variables)) (x .kind) (x .first) (x .second) (take k (stored .records)) .added ≡ x ∷ []
     records-needed = records-in-order .needed
+
+    -- So no two stored records are equal.
+    pub records-differ : (j k : ℕ) → j < k → k < length (stored .records)
+        → same (getD (stored .records) j none) (getD (stored .records) k none) ≡ false
+    records-differ = distinct (length (stored .variables)) (stored .records) records-in-order
 
     -- A network is built from nothing by adding terminals, each linked to none, to one, or to two that are then linked to each other (that link kept
     -- or dropped), exactly when no reported pivot has over two neighbours left, and then costs at most twelve a vertex. Ruled out: pivots out of turn.

@@ -185,42 +185,31 @@ vertex 1 formula 4
     assert_eq!(room_needed(&file), Ok(16 + 4 + 6 * (7 + 4) + 12));
 }
 
+/// The listing of two dead vertices with coils 1 to 4 and these switches is this, with the given counts and records.
+fn assert_joined(switches: &[[u16; 4]], counts: &str, records: &str) {
+    let file = wiring(&[1, 2, 3, 4], &[], &[0, 0], switches);
+    let order = "pivot 0 degree 1\npivot 1 degree 0\n";
+    let answers = "vertex 0 formula 0\nvertex 1 formula 0\n";
+    assert_eq!(listing(&file), [counts, order, records, answers].concat());
+}
+
 /// Joins come in the switches' order, "first end to second end, then back", before any pivot.
 #[test]
 fn joins_in_order() {
-    let switches = [[0, 1, 2, 3], [1, 1, 2, 2], [1, 0, 4, 5], [0, 1, 3, 2]];
-    let file = wiring(&[1, 2, 3, 4], &[], &[0, 0], &switches);
     // label(1,0) = 3 or 4 = f6, label(0,1) = 2 or 5 = f7, then 3 or f7 = f8, 2 or f6 = f9.
-    let text = "\
-vertices 2 switches 4 joins 4 work 4 nodes 4
-pivot 0 degree 1
-pivot 1 degree 0
-f 6 or 3 4
-f 7 or 2 5
-f 8 or 3 7
-f 9 or 2 6
-vertex 0 formula 0
-vertex 1 formula 0
-";
-    assert_eq!(listing(&file), text);
+    let switches = [[0, 1, 2, 3], [1, 1, 2, 2], [1, 0, 4, 5], [0, 1, 3, 2]];
+    let counts = "vertices 2 switches 4 joins 4 work 4 nodes 4\n";
+    let records = "f 6 or 3 4\nf 7 or 2 5\nf 8 or 3 7\nf 9 or 2 6\n";
+    assert_joined(&switches, counts, records);
 }
 
 /// A label that is joined again is held by what it was joined to: nothing is added.
 #[test]
 fn joins_absorbed() {
-    let switches = [[0, 1, 2, 3], [1, 0, 4, 5], [0, 1, 2, 3]];
-    let file = wiring(&[1, 2, 3, 4], &[], &[0, 0], &switches);
     // label(1,0) = 3 or 4 = f6, label(0,1) = 2 or 5 = f7, then 2 or f7 = f7, 3 or f6 = f6.
-    let text = "\
-vertices 2 switches 3 joins 4 work 4 nodes 2
-pivot 0 degree 1
-pivot 1 degree 0
-f 6 or 3 4
-f 7 or 2 5
-vertex 0 formula 0
-vertex 1 formula 0
-";
-    assert_eq!(listing(&file), text);
+    let switches = [[0, 1, 2, 3], [1, 0, 4, 5], [0, 1, 2, 3]];
+    let counts = "vertices 2 switches 3 joins 4 work 4 nodes 2\n";
+    assert_joined(&switches, counts, "f 6 or 3 4\nf 7 or 2 5\n");
 }
 
 /// A triangle whose pivot 0 shows the nesting of the loops: v's start, then the labels to v, then the next v.
