@@ -11,7 +11,7 @@ use Rattle.formula.specs.MakeLaws.{orderly-none}
 use Rattle.network.specs.Layout.{Sound}
 use Rattle.network.specs.Network.{edition, entriesOf, networkOf}
 use Rattle.network.specs.declared.Sections.{Sections}
-use Rattle.plan.specs.Measure.{operationsOf, roomIn, plan-bounded, edition-most}
+use Rattle.plan.specs.Measure.{operationsOf, roomIn, edition-most}
 use Rattle.plan.specs.Plans.{planIn}
 use Rattle.plan.specs.declared.Plan.{Plan}
 use Rattle.records.specs.Bytes.{recordsIn}
@@ -38,7 +38,7 @@ module _ (file : List ℕ) (parts : Sections) (found : Plan) (out : List ℕ) (a
   fill-fits = plan-fits file parts (able .sound .layout) (able .sound .within) found (able .planned)
 
   few : (found .joins ≤ 798) × (found .work ≤ 9200)
-  few = edition-most _ _ (plan-bounded edition file parts (able .sound .layout) (able .sound .within) found (able .planned))
+  few = edition-most file parts (able .sound .layout) (able .sound .within) found (able .planned)
 
   module _ (first : List ℕ) (e : first ≡ putNumbers out 0 (section single (networkOf file .variables))) where
     long : length first ≡ length out

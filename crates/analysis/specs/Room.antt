@@ -14,7 +14,7 @@ use Rattle.network.specs.Places.{network-placed}
 use Rattle.network.specs.Ranges.{in-range}
 use Rattle.links.specs.Switches.{joinsOf}
 use Rattle.network.specs.Layout.{sectionsOf}
-use Rattle.plan.specs.Measure.{workIn, operations, roomFor, roomFault, plan-bounded, edition-most}
+use Rattle.plan.specs.Measure.{workIn, operations, roomFor, roomFault, edition-most}
 use Rattle.plan.specs.Plans.{planFor, planIn}
 use Rattle.analysis.specs.Analysis.{analysisFault}
 
@@ -33,7 +33,7 @@ module _ (s : List ℕ) where
   unfolding planIn planFor
   operations-most e =
       let sound = in-range edition s e in
-      edition-most _ _ (plan-bounded edition s (sectionsOf s) (sound .layout) (sound .within) (planIn (networkOf s)) refl)
+      edition-most s (sectionsOf s) (sound .layout) (sound .within) (planIn (networkOf s)) refl
 
   -- and no more room is needed,
   pub room-most : networkFault edition s ≡ fine → roomFor (networkOf s) ≤ resultRoom

@@ -71,5 +71,8 @@ plan-bounded limits s parts layout within found e =
     })
 
 -- In this edition joins are at most 798 and the work is at most 9,200.
-pub edition-most : (joins work : ℕ) → Bounded edition joins work → (joins ≤ 798) × (work ≤ 9200)
-edition-most joins work b = (omega (arith, b .joins), omega (arith, b .work))
+pub edition-most : (s : List ℕ) (parts : Sections) → Layout s parts → Within edition parts → (found : Plan) → found ≡ planIn (networkOf s)
+    → (found .joins ≤ 798) × (found .work ≤ 9200)
+edition-most s parts layout within found e =
+    let b = plan-bounded edition s parts layout within found e in
+    (omega (arith, b .joins), omega (arith, b .work))

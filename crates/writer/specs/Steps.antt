@@ -18,7 +18,7 @@ use Rattle.network.specs.Network.{Network, edition, networkOf}
 use Rattle.network.specs.declared.Sections.{Sections}
 use Rattle.plan.specs.declared.Plan.{Plan}
 use Rattle.plan.specs.Plans.{degreesOf, planIn}
-use Rattle.plan.specs.Measure.{plan-bounded, edition-most}
+use Rattle.plan.specs.Measure.{edition-most}
 use Rattle.plan.specs.PlanLaws.{order-at, degree-at, order-inside}
 use Rattle.writer.specs.Last.{stepAt, stepsIn, Fits}
 use Rattle.writer.specs.Lengths.{steps-long}
@@ -75,7 +75,7 @@ plan-fits s parts layout within found e =
     let n = length (net .starts) in
     let g = linksOf (net .switches) in
     let l = starts-length layout in
-    let few = edition-most _ _ (plan-bounded edition s parts layout within found e) in
+    let few = edition-most s parts layout within found e in
     record {
       vertex = λ k h. omega (arith, order-inside net found e k (omega arith), within .vertices);
       degree = λ k h. omega (arith, degree-at net found e k (omega arith), degrees-most g (vertices n) (order n g) k, upTo-length n 0, within .vertices);
