@@ -24,9 +24,10 @@ use Rattle.form.specs.Verdicts as verdicts
 use Rattle.form.specs.declared.Reply.{Reply}
 use Rattle.form.specs.References.{kindNot, constantTrue, formula}
 use Rattle.form.specs.declared.Record.{Record}
-use Rattle.formula.specs.Distinct.{distinct}
-use Rattle.formula.specs.Make.{none, same, named, old, holds, absorbed, make}
+use Rattle.formula.specs.Make.{none, same, indexOf, named, old, holds, absorbed, make}
 use Rattle.formula.specs.MakeLaws.{Orderly, absorbs}
+use Rattle.formula.specs.Search.{Distinct, larger}
+use Rattle.formula.specs.SearchLaws.{distinct, found-at, none-before}
 use Rattle.links.specs.Links.{Graph, Step, order, steps}
 use Rattle.links.specs.Lists.{vertices}
 use Rattle.links.specs.Switches.{linksOf, joinsOf}
@@ -116,8 +117,7 @@ module _ (s before after : List ℕ) (r : Reply) (call : analyse.Promise s befor
     records-needed = records-in-order .needed
 
     -- So no two stored records are equal.
-    pub records-differ : (j k : ℕ) → j < k → k < length (stored .records)
-        → same (getD (stored .records) j none) (getD (stored .records) k none) ≡ false
+    pub records-differ : Distinct (stored .records)
     records-differ = distinct (length (stored .variables)) (stored .records) records-in-order
 
     -- A network is built from nothing by adding terminals, each linked to none, to one, or to two that are then linked to each other (that link kept
@@ -134,6 +134,15 @@ pub held-is-absorbed : (p : ℕ) (records : List Record) → Orderly p records �
     → b < formula p (length records) → holds a (named p b records) ≡ true
     → let o = old (absorbed kind a b (named p b records)) in (make p kind a b records ≡ o) × (make p kind b a records ≡ o)
 held-is-absorbed = absorbs
+
+-- The newest record first, over records in order: one anywhere that is the same as x is the first such, so the order of searching changes nothing; and
+-- none is the same as x whose reference is at or below x's larger argument, so a search from the newest on may stop there.
+module _ (p : ℕ) (records : List Record) (orderly : Orderly p records) (x : Record) (k : ℕ) (there : k < length records) where
+  pub newest-is-first : same (getD records k none) x ≡ true → k ≡ indexOf records x
+  newest-is-first = found-at records (distinct p records orderly) x k there
+
+  pub none-up-to-argument : formula p k ≤ larger x → same (getD records k none) x ≡ false
+  none-up-to-argument = none-before p records orderly x k there
 
 -- Refusal 8, joins plus work above 10,000, cannot arise: of every file without a fault of 1 to 7, joins are at most 798 and the work is at most 9,200,
 -- together at most 9,998, and its result never needs more than 63,548 bytes. Both bounds are those of any limits, at 400 switches and 24 vertices.

@@ -1,6 +1,7 @@
 pub mod Make
 pub mod MakeLaws
-pub mod Distinct
+pub mod Search
+pub mod SearchLaws
 pub mod Givens
 pub mod GivenLaws
 pub mod Worth

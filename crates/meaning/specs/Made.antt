@@ -1,7 +1,7 @@
 -- What records mean under a setting: earlier references keep their worth, and what is made is worth the operation on its arguments' worths.
 use mathlib.Core.Path.{_≡_, refl, sym, ap, _∙_}
 use mathlib.Core.Logic.{⊎-elim}
-use mathlib.Core.Bool.{Bool, true, false, not, cond, _&&_, _||_, Bool·not-not, false≢true}
+use mathlib.Core.Bool.{Bool, true, false, not, cond, _||_, Bool·not-not, false≢true}
 use mathlib.Core.List.{List, [], _∷_, _++_}
 use Prim.Native.Nat.{ℕ, suc, _-_, _≤_, _<_}
 use native.Mathlib.Omega.{arith}
@@ -12,27 +12,12 @@ use lib.Seq.{take-suc, length-take-le}
 use Rattle.laws.specs.Tests.{both-true, either-true, byChoice}
 use Rattle.form.specs.References.{kindOr, kindNot, constantFalse, constantTrue, formula}
 use Rattle.form.specs.declared.Record.{Record}
-use Rattle.formula.specs.Make.{Outcome, old, same, indexOf, none, named, notOf, andOr, holds, absorbed, neutral, deciding, enter, negate, relate, combine, make}
+use Rattle.formula.specs.Make.{Outcome, old, indexOf, none, named, notOf, andOr, holds, absorbed, neutral, deciding, enter, negate, relate, combine, make}
 use Rattle.formula.specs.MakeLaws.{Orderly, named-first, and-or-kind, absorbed-is}
+use Rattle.formula.specs.SearchLaws.{found-is}
 use Rattle.formula.specs.Worth.{operate, leaves, evaluate, worth}
 use Rattle.formula.specs.WorthLaws.{operate-not, operate-neutral, operate-deciding, operate-opposite, operate-same, operate-turned, operate-again, operate-absorbed}
 use Rattle.formula.specs.WorthLaws.{value-next, leaves-length, evaluate-length, evaluate-append, evaluate-kept}
-
--- A record that is found is the one that was sought.
-same-is : (r x : Record) → same r x ≡ true → r ≡ x
-same-is r x t =
-    let q = both-true (eqb (r .kind) (x .kind) && eqb (r .first) (x .first)) (eqb (r .second) (x .second)) t in
-    let k = both-true (eqb (r .kind) (x .kind)) (eqb (r .first) (x .first)) (q .0) in
-    let a = eqb-true (r .kind) (x .kind) (k .0) in
-    let b = eqb-true (r .first) (x .first) (k .1) in
-    let c = eqb-true (r .second) (x .second) (q .1) in
-    λ i. record { kind = a i; first = b i; second = c i }
-
-found-is : (rs : List Record) (x : Record) → indexOf rs x < length rs → getD rs (indexOf rs x) none ≡ x
-unfolding indexOf
-found-is [] x h = absurd (omega arith)
-found-is (r ∷ rs) x h =
-    byChoice (λ (i : ℕ). i < length (r ∷ rs) → getD (r ∷ rs) i none ≡ x) (same r x) _ _ (λ t l. same-is r x t) (λ t l. found-is rs x (omega arith)) h
 
 module _ (setting : List ℕ) (p : ℕ) (sized : length setting ≡ p) where
   known-length : (records : List Record) → length (evaluate (leaves setting) records) ≡ formula p (length records)

@@ -1,70 +1,80 @@
 -- The search for a record in a table, and the record that a reference names.
-use Prim.Native.Nat.{ℕ, suc, _+_, _-_, _*_, _≤_, _<_}
+use Prim.Native.Nat.{ℕ, _+_, _-_, _*_, _≤_, _<_}
 use mathlib.Core.Path.{_≡_, sym, ap, _∙_}
-use mathlib.Core.Bool.{Bool, true, false}
-use mathlib.Core.List.{List, _∷_}
+use mathlib.Core.Logic.{⊎-elim}
+use mathlib.Core.Bool.{Bool, true, false, _&&_, and-false, and-true}
+use mathlib.Core.List.{List}
 use native.Mathlib.Omega.{arith}
-use native.Mathlib.Numerals.{add-one}
-use borrow.Author.Tests.{eq-eqb, ne-eqb, lt-ltb, le-ltb}
-use lib.Dec.{eqb}
-use lib.ListN.{length, drop}
-use lib.Seq.{drop-cons, drop-length}
+use native.Mathlib.Nat.{eq-or-lt-of-le}
+use borrow.Author.Tests.{eq-eqb, ne-eqb, lt-ltb, le-ltb, le-leb, lt-leb, ltb-true, ltb-false}
+use lib.Dec.{eqb, ltb}
+use lib.ListN.{getD}
+use Rattle.laws.specs.Tests.{byTest}
 use Rattle.form.specs.declared.Record.{Record}
 use Rattle.form.specs.References.{formula}
 use Rattle.network.specs.Network.{givenAt}
 use Rattle.records.specs.Bytes.{recordsIn}
 use Rattle.records.specs.Laws.{length-records, record-at}
+use Rattle.records.specs.Gives.{Room}
 use Rattle.formula.specs.Make.{same, indexOf, named, none}
+use Rattle.formula.specs.Search.{larger, placeAfter}
+use Rattle.formula.specs.SearchLaws.{distinct, found-at, found-none, none-before}
 
--- Two records are compared field by field.
+-- Two records are compared field by field, the second argument first.
 module _ (x y : Record) where
-  pub kind-differs : (x .kind ≡ y .kind → ⊥) → false ≡ same x y
-  kind-differs e = rw (ne-eqb _ _ e)
+  pub second-differs : (x .second ≡ y .second → ⊥) → false ≡ same x y
+  second-differs e = rw (ne-eqb _ _ e) (sym (and-false (eqb (x .kind) (y .kind) && eqb (x .first) (y .first))))
 
-  pub first-differs : x .kind ≡ y .kind → (x .first ≡ y .first → ⊥) → false ≡ same x y
-  first-differs e f = rw (eq-eqb _ _ e, ne-eqb _ _ f)
+  pub first-differs : x .second ≡ y .second → (x .first ≡ y .first → ⊥) → false ≡ same x y
+  first-differs e f = rw (eq-eqb _ _ e, ne-eqb _ _ f, and-false (eqb (x .kind) (y .kind)))
 
-  pub by-second : x .kind ≡ y .kind → x .first ≡ y .first → eqb (x .second) (y .second) ≡ same x y
-  by-second e f = rw (eq-eqb _ _ e, eq-eqb _ _ f)
+  pub by-kind : x .second ≡ y .second → x .first ≡ y .first → eqb (x .kind) (y .kind) ≡ same x y
+  by-kind e f = rw (eq-eqb _ _ e, eq-eqb _ _ f, and-true (eqb (x .kind) (y .kind)), and-true (eqb (x .kind) (y .kind)))
 
--- The search has passed k records: what is left to find lies in the rest.
+-- The larger argument.
+module _ (x : Record) where
+  pub larger-second : x .first ≤ x .second → x .second ≡ larger x
+  unfolding larger
+  larger-second h = rw (le-leb _ _ h)
+
+  pub larger-first : x .second < x .first → x .first ≡ larger x
+  unfolding larger
+  larger-first h = rw (lt-leb _ _ h)
+
+-- The search has come down to k: no record from there on is the same.
 pub record Searched (s : List ℕ) (base n : ℕ) (x : Record) (k : ℕ) : Type 0 where
   pub within : k ≤ n
-  pub left : k + indexOf (drop k (recordsIn s base n)) x ≡ indexOf (recordsIn s base n) x
+  pub passed : (j : ℕ) → k ≤ j → j < n → same (getD (recordsIn s base n) j none) x ≡ false
 
 module _ (s : List ℕ) (base n : ℕ) (x : Record) where
-  pub searched-none : Searched s base n x 0
-  searched-none = record { within = omega arith; left = omega arith }
+  pub searched-none : Searched s base n x n
+  searched-none = record { within = omega arith; passed = λ j a b. absurd (omega arith) }
 
   module _ (k : ℕ) (inv : Searched s base n x k) where
-    -- What is left from record k on begins with record k.
-    rest : k < n → drop k (recordsIn s base n) ≡ givenAt s (base + 6 * k) ∷ drop (k + 1) (recordsIn s base n)
-    rest h =
-        rw (add-one k)
-        (drop-cons (recordsIn s base n) k none (omega (arith, length-records s base n))
-        ∙ ap (λ (r : Record). r ∷ drop (suc k) (recordsIn s base n)) (record-at s base n k none h))
+    pub searched-all : (p least : ℕ) → Room p base n s → least ≡ placeAfter p x → k ≤ least → n ≡ indexOf (recordsIn s base n) x
+    searched-all p least room is e =
+        let l = length-records s base n in
+        sym l
+        ∙ found-none (recordsIn s base n) x
+        (λ j h. byTest (ltb j k)
+        (λ t. let b = ltb-true j k t in none-before p (recordsIn s base n) (room .orderly) x j h (omega arith))
+        (λ t. inv .passed j (ltb-false j k t) (omega arith)))
 
-    pub searched-all : n ≤ k → k ≡ indexOf (recordsIn s base n) x
-    unfolding indexOf
-    searched-all h =
-        let e : k ≡ length (recordsIn s base n) = omega (arith, length-records s base n, inv .within) in
-        let z : indexOf (drop k (recordsIn s base n)) x ≡ 0 = rw (e, drop-length) in
-        omega (arith, inv .left)
+    module _ (least : ℕ) (h : least < k) (r : Record) (read : r ≡ givenAt s (base + 6 * (k - 1))) (t : Bool) (test : t ≡ same r x) where
+      here : same (getD (recordsIn s base n) (k - 1) none) x ≡ t
+      here = ap (λ (y : Record). same y x) (record-at s base n (k - 1) none (omega (arith, inv .within)) ∙ sym read) ∙ sym test
 
-    module _ (h : k < n) (r : Record) (read : r ≡ givenAt s (base + 6 * k)) (t : Bool) (test : t ≡ same r x) where
-      pub searched-hit : t ≡ true → k ≡ indexOf (recordsIn s base n) x
-      unfolding indexOf
-      searched-hit e =
-          let q : same (givenAt s (base + 6 * k)) x ≡ true = cc in
-          let z : indexOf (drop k (recordsIn s base n)) x ≡ 0 = rw (rest h) (rw q) in
-          omega (arith, inv .left)
+      pub searched-hit : (p : ℕ) → Room p base n s → t ≡ true → k - 1 ≡ indexOf (recordsIn s base n) x
+      searched-hit p room e =
+          let rs = recordsIn s base n in
+          found-at rs (distinct p rs (room .orderly)) x (k - 1) (omega (arith, inv .within, length-records s base n)) (here ∙ e)
 
-      pub searched-more : t ≡ false → Searched s base n x (k + 1)
-      unfolding indexOf
+      pub searched-more : t ≡ false → Searched s base n x (k - 1)
       searched-more e =
-          let q : same (givenAt s (base + 6 * k)) x ≡ false = cc in
-          let z : indexOf (drop k (recordsIn s base n)) x ≡ suc (indexOf (drop (k + 1) (recordsIn s base n)) x) = rw (rest h) (rw q) in
-          record { within = omega arith; left = omega (arith, inv .left) }
+          record {
+            within = omega (arith, inv .within);
+            passed = λ j a b. ⊎-elim (λ q. rw (← q) (here ∙ e)) (λ l. inv .passed j (omega arith) b) (eq-or-lt-of-le a);
+          }
 
 -- A reference names a record of the table, or none.
 module _ (s : List ℕ) (base n p i : ℕ) where

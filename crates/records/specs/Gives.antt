@@ -6,11 +6,13 @@ use lib.ListN.{length}
 use Rattle.form.specs.References.{formula}
 use Rattle.form.specs.declared.Record.{Record}
 use Rattle.formula.specs.Make.{Outcome}
+use Rattle.formula.specs.MakeLaws.{Orderly}
 use Rattle.records.specs.declared.Made.{Made}
 use Rattle.records.specs.Bytes.{recordsIn, putRecords}
 
--- There is room for one record more, and its reference has 16 bits.
+-- The records are in order, there is room for one more, and its reference has 16 bits.
 pub record Room (p base count : ℕ) (s : List ℕ) : Type 0 where
+  pub orderly : Orderly p (recordsIn s base count)
   pub room : base + 6 * count + 6 ≤ length s
   pub fits : formula p count < 65536
 

@@ -88,7 +88,7 @@ module _ (p base : ℕ) where
   module _ {count : ℕ} {s : List ℕ} where
     -- There is room for one more.
     pub table-room : (more : ℕ) → 1 ≤ more → Table p base more count s → Room p base count s
-    table-room more h x = record { room = omega (arith, x .room); fits = omega (arith, x .fits) }
+    table-room more h x = record { orderly = x .orderly; room = omega (arith, x .room); fits = omega (arith, x .fits) }
 
     -- What making keeps, by what the table holds.
     module _ (kind a b : ℕ) (o : Orderly p (recordsIn s base count)) (ha : a < formula p count) (hb : b < formula p count) (t : List ℕ) (m : Made)

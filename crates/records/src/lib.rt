@@ -1,9 +1,10 @@
 // A table of formula records in a lent buffer: read, found, appended, and made by the rules.
 ghost use mathlib.Core.Path.{_≡_};
-ghost use Prim.Native.Nat.{_+_, _*_, _<_, _≤_};
+ghost use Prim.Native.Nat.{_+_, _-_, _*_, _<_, _≤_};
 ghost use lib.ListN.{length};
 ghost use Rattle.form.specs.References.{formula};
 ghost use Rattle.formula.specs.Make.{same, notOf, andOr, holds, absorbed, neutral, deciding, indexOf, named, enter, negate, relate, combine, make};
+ghost use Rattle.formula.specs.Search.{larger, placeAfter};
 ghost use Rattle.network.specs.Network.{givenAt};
 ghost use Rattle.records.specs.Bytes.{putRecord, recordsIn};
 ghost use Rattle.records.specs.Gives.{Room, Makes};
@@ -44,32 +45,54 @@ fn put_record(s: &mut [u8], at: usize, r: Record)
     form::put_word(s, at + 4, r.second);
 }
 
-// Whether two records are the same.
+// Whether two records are the same; the second argument tells most of them apart.
 fn same_record(x: Record, y: Record) -> bool
     ensures { λ r. ⌜ r ≡ same x y ⌝ }
 {
-    if x.kind != y.kind {
+    if x.second != y.second {
         return false;
     }
     if x.first != y.first {
         return false;
     }
-    x.second == y.second
+    x.kind == y.kind
 }
 
-// The index of the first record that is the same as x, or the count where none is.
-fn find(s: &[u8], base: usize, count: usize, x: Record) -> usize
-    requires { ⌜ base + 6 * count ≤ length (now s) ⌝ }
+// The larger argument of a record.
+fn larger(x: Record) -> u16
+    ensures { λ r. ⌜ r ≡ larger x ⌝ }
+{
+    if x.first <= x.second {
+        return x.second;
+    }
+    x.first
+}
+
+// The place after the record that the larger argument names, 0 where it names none.
+fn place_after(p: usize, x: Record) -> usize
+    ensures { λ r. ⌜ r ≡ placeAfter p x ⌝ }
+{
+    let i = larger(x) as usize;
+    if i <= p {
+        return 0;
+    }
+    i - p - 1
+}
+
+// The index of the record that is the same as x, or the count where none is: from the newest on, and no further than its arguments allow.
+fn find(s: &[u8], base: usize, p: usize, count: usize, x: Record) -> usize
+    requires { ⌜ Room p base count (now s) ⌝ }
     ensures { λ r. ⌜ r ≡ indexOf (recordsIn (now (s .entry)) base count) x ⌝ }
 {
-    let mut k = 0;
-    while k < count {
+    let least = place_after(p, x);
+    let mut k = count;
+    while k > least {
+        k -= 1;
         if same_record(read_record(s, base + 6 * k), x) {
             return k;
         }
-        k += 1;
     }
-    k
+    count
 }
 
 // The record that a reference names; its kind is 0 for a constant or a variable.
@@ -94,7 +117,7 @@ fn stored(s: &mut [u8], base: usize, p: usize, count: usize, x: Record) -> Made
     requires { ⌜ Room p base count (now s) ⌝ }
     ensures { λ r. ⌜ Makes (enter p x) base count (now (s .entry)) (now (s .exit)) r ⌝ }
 {
-    let k = find(s, base, count, x);
+    let k = find(s, base, p, count, x);
     if k < count {
         return Made {
             reference: Reference::of(p + k),

@@ -1,18 +1,36 @@
--- No two records are equal, since each is needed.
-use mathlib.Core.Path.{_≡_, ap}
-use mathlib.Core.Bool.{false}
+-- No two records are equal, since each is needed; so the newest that is the same as another is the first, and it stands after its arguments.
+use mathlib.Core.Path.{_≡_, refl, sym, ap, _∙_}
+use mathlib.Core.Bool.{true, false, true≢false, _&&_}
 use mathlib.Core.List.{List, [], _∷_}
 use Prim.Native.Nat.{ℕ, zero, suc, _≤_, _<_}
 use native.Mathlib.Omega.{arith}
-use borrow.Author.Tests.{ltb-false}
+use borrow.Author.Tests.{eqb-true, ltb-false}
 use lib.Dec.{eqb, leb, ltb}
 use lib.ListN.{length, getD, take}
 use lib.Seq.{length-take-le, getD-take}
-use Rattle.laws.specs.Tests.{byChoice}
+use Rattle.laws.specs.Tests.{both-true, byTest, byChoice}
 use Rattle.form.specs.References.{kindNot, constantFalse, constantTrue, formula}
 use Rattle.form.specs.declared.Record.{Record}
 use Rattle.formula.specs.Make.{Outcome, old, same, indexOf, none, named, notOf, holds, absorbed, neutral, deciding, enter, negate, relate, combine, make}
-use Rattle.formula.specs.MakeLaws.{Orderly}
+use Rattle.formula.specs.MakeLaws.{Earlier, Orderly}
+use Rattle.formula.specs.Search.{Distinct, larger}
+
+-- Records that are the same are equal.
+same-is : (r x : Record) → same r x ≡ true → r ≡ x
+same-is r x t =
+    let q = both-true (eqb (r .kind) (x .kind) && eqb (r .first) (x .first)) (eqb (r .second) (x .second)) t in
+    let k = both-true (eqb (r .kind) (x .kind)) (eqb (r .first) (x .first)) (q .0) in
+    let a = eqb-true (r .kind) (x .kind) (k .0) in
+    let b = eqb-true (r .first) (x .first) (k .1) in
+    let c = eqb-true (r .second) (x .second) (q .1) in
+    λ i. record { kind = a i; first = b i; second = c i }
+
+-- A record that is found is the one that was sought.
+pub found-is : (rs : List Record) (x : Record) → indexOf rs x < length rs → getD rs (indexOf rs x) none ≡ x
+unfolding indexOf
+found-is [] x h = absurd (omega arith)
+found-is (r ∷ rs) x h =
+    byChoice (λ (i : ℕ). i < length (r ∷ rs) → getD (r ∷ rs) i none ≡ x) (same r x) _ _ (λ t l. same-is r x t) (λ t l. found-is rs x (omega arith)) h
 
 module _ (p : ℕ) (records : List Record) (x : Record) where
   -- Where an outcome adds x, none of the records is the same.
@@ -65,11 +83,39 @@ not-found (r ∷ rs) x h (suc j) l =
     (λ t g. not-found rs x (omega arith) j (omega arith))
     h
 
--- So of two records in order the later is not the same as the earlier.
-pub distinct : (p : ℕ) (records : List Record) → Orderly p records → (j k : ℕ) → j < k → k < length records
-    → same (getD records j none) (getD records k none) ≡ false
+-- So no two records in order are equal.
+pub distinct : (p : ℕ) (records : List Record) → Orderly p records → Distinct records
 distinct p records orderly j k l h =
     let x = getD records k none in
     let new = adds-make p (take k records) x (x .kind) (x .first) (x .second) (orderly .needed k h) in
     let there = not-found (take k records) x new j (omega (arith, length-take-le k records (omega arith))) in
     rw (getD-take k records j none l) at there
+
+-- Where no two are equal, a record anywhere that is the same as x is the first.
+pub found-at : (rs : List Record) → Distinct rs → (x : Record) (k : ℕ) → k < length rs → same (getD rs k none) x ≡ true → k ≡ indexOf rs x
+unfolding indexOf
+found-at [] apart x k h t = absurd (omega arith)
+found-at (r ∷ rs) apart x zero h t = rw t
+found-at (r ∷ rs) apart x (suc k) h t =
+    byChoice (λ (i : ℕ). suc k ≡ i) (same r x) _ _
+    (λ e. let apart-from : same r x ≡ false = rw (same-is (getD rs k none) x t) at (apart 0 (suc k) (omega arith) h) in
+    absurd (true≢false (sym e ∙ apart-from)))
+    (λ e. ap suc (found-at rs (λ i j l b. apart (suc i) (suc j) (omega arith) (omega arith)) x k (omega arith) t))
+
+-- Where none is the same as x, their number is given.
+pub found-none : (rs : List Record) (x : Record) → ((k : ℕ) → k < length rs → same (getD rs k none) x ≡ false) → length rs ≡ indexOf rs x
+unfolding indexOf
+found-none [] x f = refl
+found-none (r ∷ rs) x f = rw (f 0 (omega arith)) (ap suc (found-none rs x (λ k h. f (suc k) (omega arith))))
+
+larger-below : (own : ℕ) (x : Record) → Earlier own x → larger x < own
+unfolding larger
+larger-below own x e = byChoice (λ (i : ℕ). i < own) (leb (x .first) (x .second)) (x .second) (x .first) (λ t. e .second) (λ t. e .first)
+
+-- None in order is the same as x whose own reference is at or below x's larger argument.
+pub none-before : (p : ℕ) (records : List Record) → Orderly p records → (x : Record) (k : ℕ) → k < length records → formula p k ≤ larger x
+    → same (getD records k none) x ≡ false
+none-before p records orderly x k h l =
+    byTest (same (getD records k none) x)
+    (λ t. absurd (let e = larger-below (formula p k) x (rw (same-is (getD records k none) x t) at (orderly .earlier k h)) in omega arith))
+    (λ t. t)
