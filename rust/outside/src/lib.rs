@@ -10,6 +10,7 @@ pub mod dressing;
 pub mod faults;
 pub mod handmade;
 pub mod lent;
+pub mod looked;
 pub mod networks;
 pub mod program;
 pub mod rooms;

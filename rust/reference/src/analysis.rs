@@ -1,7 +1,7 @@
 //! The analysis (the outline, "Links, order, work" and "The result form") with refusal 9.
 
 use crate::form::{Network, Switch};
-use crate::formula::{Formulas, Record, Reference};
+use crate::formula::{Formulas, Record, Reference, Search};
 use crate::Refusal;
 
 /// A vertex as it was taken from the remaining ones, with its remaining neighbours then, ascending.
@@ -28,9 +28,19 @@ pub struct Analysis<'a> {
 }
 
 impl<'a> Analysis<'a> {
-    /// Pivots until no vertex remains, then the answers "from last pivot to first".
+    /// The analysis, out of no records.
     pub fn of(network: &'a Network) -> Analysis<'a> {
-        let mut system = System::of(network);
+        Analysis::with(network, Formulas::new(network.coils.len()))
+    }
+
+    /// The same, with its searches noted.
+    pub fn noting(network: &'a Network) -> Analysis<'a> {
+        Analysis::with(network, Formulas::noting(network.coils.len()))
+    }
+
+    /// Pivots until no vertex remains, then the answers "from last pivot to first".
+    fn with(network: &'a Network, formulas: Formulas) -> Analysis<'a> {
+        let mut system = System::of(network, formulas);
         let mut order = Vec::with_capacity(network.starts.len());
         while let Some(pivot) = system.choose() {
             system.eliminate(&pivot);
@@ -52,6 +62,11 @@ impl<'a> Analysis<'a> {
     /// The records made, in order: "records that no vertex needs stay".
     pub fn records(&self) -> &[Record] {
         self.formulas.records()
+    }
+
+    /// The searches that were noted.
+    pub fn searches(&self) -> &[Search] {
+        self.formulas.searches()
     }
 
     /// "Room needed for a result: 16 + 2p + 6(g + joins + work) + 6n bytes".
@@ -117,10 +132,8 @@ struct System {
 
 impl System {
     /// "Given formulas pass through these rules in order"; then the switches link and join in order.
-    fn of(network: &Network) -> System {
-        let variables = network.coils.len();
-        let mut formulas = Formulas::new(variables);
-        let translation = translate(&mut formulas, variables, &network.given);
+    fn of(network: &Network, mut formulas: Formulas) -> System {
+        let translation = translate(&mut formulas, network.coils.len(), &network.given);
         let translated = |reference: Reference| translation[usize::from(reference)];
         let vertices = network.starts.len();
         let mut system = System {
@@ -296,7 +309,7 @@ mod tests {
         let mut random = Xorshift::new();
         for _ in 0..100 {
             let (file, mut links) = random_graph(&mut random);
-            let mut system = System::of(&Network::read(&file).unwrap());
+            let mut system = System::of(&Network::read(&file).unwrap(), Formulas::new(2));
             let mut costs = Vec::new();
             while let Some(pivot) = system.choose() {
                 assert_eq!(pivot.vertex, next_by_rule_m(&links, &costs));

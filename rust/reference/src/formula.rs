@@ -10,8 +10,11 @@ const TRUE: Reference = 1;
 /// The kind of a formula, with its number in both file forms.
 #[derive(Debug, Clone, Copy, PartialEq, Eq, Hash)]
 pub enum Kind {
+    /// Both arguments.
     And = 1,
+    /// One of the arguments, or both.
     Or = 2,
+    /// Not the first argument.
     Not = 3,
 }
 
@@ -36,9 +39,23 @@ impl Kind {
 /// "kind, first, second": a record, and likewise a given formula of the file.
 #[derive(Debug, Clone, Copy, PartialEq, Eq, Hash)]
 pub struct Record {
+    /// The operation.
     pub kind: Kind,
+    /// Its first argument.
     pub first: Reference,
+    /// Its second argument, 0 for not.
     pub second: Reference,
+}
+
+/// Rule 6 asked once: which record is sought, how many there are, and at which of them it is.
+#[derive(Debug, Clone, Copy, PartialEq, Eq)]
+pub struct Search {
+    /// The record that is sought.
+    pub sought: Record,
+    /// How many records there are.
+    pub count: usize,
+    /// The index of the one that it equals; none where a record is added.
+    pub found: Option<usize>,
 }
 
 /// All records made so far, in order, and each one's reference for rule 6.
@@ -46,6 +63,7 @@ pub struct Formulas {
     variables: usize,
     records: Vec<Record>,
     references: HashMap<Record, Reference>,
+    searches: Option<Vec<Search>>,
 }
 
 impl Formulas {
@@ -55,7 +73,21 @@ impl Formulas {
             variables,
             records: Vec::new(),
             references: HashMap::new(),
+            searches: None,
         }
+    }
+
+    /// No records yet, and each search is noted.
+    pub fn noting(variables: usize) -> Formulas {
+        Formulas {
+            searches: Some(Vec::new()),
+            ..Formulas::new(variables)
+        }
+    }
+
+    /// What was noted, in the order of asking.
+    pub fn searches(&self) -> &[Search] {
+        self.searches.as_deref().unwrap_or_default()
     }
 
     /// The records in the order of their making.
@@ -146,12 +178,26 @@ impl Formulas {
             first,
             second,
         };
+        self.note(record);
         let next = 2 + self.variables + self.records.len();
         *self.references.entry(record).or_insert_with(|| {
             self.records.push(record);
             Reference::try_from(next)
                 .expect("the outline's limits keep references far below 65,536")
         })
+    }
+
+    /// Notes a search, where searches are noted.
+    fn note(&mut self, sought: Record) {
+        let Some(searches) = &mut self.searches else {
+            return;
+        };
+        let index = |&reference: &Reference| usize::from(reference) - 2 - self.variables;
+        searches.push(Search {
+            sought,
+            count: self.records.len(),
+            found: self.references.get(&sought).map(index),
+        });
     }
 }
 
@@ -219,10 +265,10 @@ mod tests {
         assert_eq!((formulas.or(5, 7), formulas.and(6, 8)), (7, 8));
     }
 
-    /// Rules 6 and 7: one record for both argument orders, and another for another kind.
+    /// Rules 6 and 7: one record for both argument orders, and another for another kind. Six searches, of which three find.
     #[test]
     fn existing_and_new_records() {
-        let mut formulas = Formulas::new(2);
+        let mut formulas = Formulas::noting(2);
         assert_eq!((formulas.and(3, 2), formulas.and(2, 3)), (4, 4));
         assert_eq!((formulas.or(3, 2), formulas.not(2)), (5, 6));
         assert_eq!((formulas.or(2, 3), formulas.not(2)), (5, 6));
@@ -233,5 +279,19 @@ mod tests {
             .collect();
         let expected = [(Kind::And, 2, 3), (Kind::Or, 2, 3), (Kind::Not, 2, 0)];
         assert_eq!(made, expected);
+        let noted: Vec<_> = formulas
+            .searches()
+            .iter()
+            .map(|search| (search.count, search.found))
+            .collect();
+        let expected = [
+            (0, None),
+            (1, Some(0)),
+            (1, None),
+            (2, None),
+            (3, Some(1)),
+            (3, Some(2)),
+        ];
+        assert_eq!(noted, expected);
     }
 }

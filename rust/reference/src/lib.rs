@@ -15,6 +15,7 @@ mod tests;
 
 use analysis::Analysis;
 use form::Network;
+pub use formula::{Kind, Record, Search};
 pub use result::truths;
 
 /// "A refusal returns its number and place": the number of the outline's table, and a byte offset, an index or 0.
@@ -50,4 +51,10 @@ pub fn listing(file: &[u8]) -> String {
 pub fn room_needed(file: &[u8]) -> Result<usize, Refusal> {
     let network = Network::read(file)?;
     Ok(Analysis::of(&network).room())
+}
+
+/// Every search for an existing record (rule 6) in the order of asking, or the first refusal of 1 to 7.
+pub fn searches(file: &[u8]) -> Result<Vec<Search>, Refusal> {
+    let network = Network::read(file)?;
+    Ok(Analysis::noting(&network).searches().to_vec())
 }

@@ -1,6 +1,7 @@
 //! The benchmark: the proved library and the reference on the same files.
 
 use outside::cards::{cards, growing, Card};
+use outside::looked::looked;
 use outside::timing::{figures, stacks, Figures, EMULATED, ROUNDS};
 use std::env::consts::ARCH;
 use std::process::ExitCode;
@@ -18,15 +19,15 @@ fn main() -> ExitCode {
 fn bench() -> Result<(), String> {
     jorulbani::ready().map_err(|why| why.to_string())?;
     heading();
-    let cards = cards();
+    let (cards, growing) = (cards(), growing());
     println!("\nCards");
-    let limit = table(&cards)?;
+    table(&cards)?;
     println!("\nGrowth with the vertices, every pair linked");
-    table(&growing())?;
-    let records = limit.records;
-    println!("\nAt the limit there are {records} records; the library looks for one among them one by one, the reference by hashing.");
+    table(&growing)?;
+    println!("\nSearches for an existing record in one analysis, counted in the reference, which itself hashes");
+    searches(cards.iter().chain(&growing))?;
     let [analyse, direct, list] = stacks(&cards[cards.len() - 1].file);
-    println!("Bytes of stack that one call of the library uses at the limit: analyse {analyse}, direct {direct}, list {list}.");
+    println!("\nBytes of stack that one call of the library uses at the limit: analyse {analyse}, direct {direct}, list {list}.");
     Ok(())
 }
 
@@ -42,8 +43,8 @@ fn heading() {
     }
 }
 
-/// A line for each card. Gives the figures of the last.
-fn table(cards: &[Card]) -> Result<Figures, String> {
+/// A line for each card.
+fn table(cards: &[Card]) -> Result<(), String> {
     println!(
         "{:52}{:^30}{:^30}{:>12}",
         "", "library", "reference", "time ratio"
@@ -57,13 +58,28 @@ fn table(cards: &[Card]) -> Result<Figures, String> {
         "lib./ref.",
         side = format_args!("{:>10}{:>10}{:>10}", "µs/file", "files/s", "ns/op."),
     );
-    let mut last = None;
     for card in cards {
         let figures = figures(&card.file).map_err(|why| format!("{}: {why}", card.name))?;
         line(&card.name, &figures);
-        last = Some(figures);
     }
-    last.ok_or("no cards".to_string())
+    Ok(())
+}
+
+/// The records looked at, a line for each card; the last column is the library's way.
+fn searches<'a>(cards: impl Iterator<Item = &'a Card>) -> Result<(), String> {
+    println!("{:40}{:>45}", "", "records looked at from the");
+    println!(
+        "{:20}{:>10}{:>10}{:>12}{:>12}{:>30}",
+        "", "searches", "found", "first on", "newest on", "newest to the larger argument"
+    );
+    for card in cards {
+        let name = &card.name;
+        let looked = looked(&card.file).map_err(|why| format!("{name}: {why}"))?;
+        print!("{name:20}{:>10}{:>10}", looked.searches, looked.found);
+        print!("{:>12}{:>12}", looked.first_on, looked.newest_on);
+        println!("{:>30}", looked.to_argument);
+    }
+    Ok(())
 }
 
 fn line(name: &str, figures: &Figures) {
