@@ -15,13 +15,13 @@ use Rattle.network.specs.Lists.{variables-length, starts-length}
 use Rattle.network.specs.Network.{edition, side, entriesOf, networkOf}
 use Rattle.network.specs.declared.Sections.{Sections}
 use Rattle.operations.specs.Runs.{sheetIn, Ready, Ran}
-use Rattle.plan.specs.Matrix.{remaining-all}
 use Rattle.plan.specs.Measure.{operationsOf}
 use Rattle.plan.specs.PlanLaws.{order-inside}
 use Rattle.plan.specs.Plans.{padded, planFor, planIn}
 use Rattle.plan.specs.declared.Plan.{Plan}
 use Rattle.records.specs.Bytes.{recordsIn, putRecords}
 use Rattle.records.specs.Grown.{Table, grown-then, table-less, table-after}
+use Rattle.rows.specs.Row.{allOf, vertices-all}
 use Rattle.sheet.specs.Asks.{work}
 use Rattle.sheet.specs.Cells.{cellsIn}
 use Rattle.sheet.specs.Perform.{Sheet}
@@ -70,28 +70,8 @@ module _ (file : List ℕ) (parts : Sections) (sound : Sound edition file parts)
           let l : parts .vertices ≡ length (order n g) = sym (order-length n g ∙ n-is) in
           rw (order-is, l) (take-append-seam (order n g) (replicate (side - length (order n g)) 0))
 
-      plan-is : planFrom links (replicate side 1) (found .order) (parts .vertices) 0
-          ≡ planOf (length (networkOf file .starts)) (linksOf (networkOf file .switches))
-      unfolding planFrom
-      plan-is = rw (ordered, is .graph, remaining-all (parts .vertices) (sound .within .vertices), ← n-is)
-
-      -- The plan can be carried out:
-      pub plan-ready : Ready (parts .variables) base (work (planFrom links (replicate side 1) (found .order) (parts .vertices) 0)) cells o m
-      plan-ready =
-          let w = work-is in
-          let j = joins-are in
-          let e : parts .givens + operationsOf found
-          ≡ (parts .givens + joinsOf (networkOf file .switches)) + workOf (length (networkOf file .starts)) (linksOf (networkOf file .switches))
-          = omega arith in
-          rw plan-is
-          (record {
-            held = is .held;
-            table = table-after (parts .variables) base (parts .givens + joinsOf (networkOf file .switches))
-                (workOf (length (networkOf file .starts)) (linksOf (networkOf file .switches))) (rw e at table) (is .grown);
-          })
-
-      -- its pivots are vertices,
-      pub plan-level : Level links (replicate side 1) (found .order) (parts .vertices) 0
+      -- The pivots are vertices.
+      pub plan-level : Level links (found .order) (parts .vertices) 0
       unfolding padded
       plan-level =
           let n = length (networkOf file .starts) in
@@ -102,33 +82,54 @@ module _ (file : List ℕ) (parts : Sections) (sound : Sound edition file parts)
             few = sound .within .vertices;
             within = omega arith;
             linked = is .long;
-            marked = length-replicate {A = ℕ} side 1;
             listed = rw order-is
                 (omega (arith, length-append (order n g) (replicate (side - length (order n g)) 0), n-is, sound .within .vertices));
             vertex = λ j h. omega (arith, order-inside (networkOf file) found e j (omega (arith, n-is)), n-is, sound .within .vertices);
           }
 
-      module _ (cells′ out′ : List ℕ) (count : ℕ)
-          (ran : Ran (parts .variables) base (planFrom links (replicate side 1) (found .order) (parts .vertices) 0) cells o m cells′ out′ count) where
-        done : sheetIn cells′ out′ base count ≡ eliminated (networkOf file)
-        unfolding eliminated
-        done =
-            let p = variables-length (sound .layout) in
-            rw (p, ← plan-is, ← is .sheet) (ran .sheet)
+      -- All vertices remain at first.
+      module _ (remain : ℕ) (all : remain ≡ allOf (parts .vertices)) where
+        plan-is : planFrom links remain (found .order) (parts .vertices) 0
+            ≡ planOf (length (networkOf file .starts)) (linksOf (networkOf file .switches))
+        unfolding planFrom
+        plan-is = rw (ordered, is .graph, all, vertices-all (parts .vertices), ← n-is)
 
-        -- and then the network is eliminated.
-        pub plan-solved : SolvedIn file parts found base out cells′ out′ count
-        unfolding sheetIn recordsIn entriesOf
-        plan-solved =
-            let all = grown-then (parts .variables) base (parts .givens + joinsOf (networkOf file .switches))
-            (work (planFrom links (replicate side 1) (found .order) (parts .vertices) 0)) (is .grown) (ran .grown) in
-            let records : recordsIn out′ base count ≡ eliminated (networkOf file) .records = ap (λ (st : Sheet). st .records) done in
-            let added : all .added ≡ eliminated (networkOf file) .records = sym (all .records) ∙ records in
-            let place : base + 6 * 0 ≡ base = omega arith in
-            let more : count ≡ 0 + length (eliminated (networkOf file) .records) = rw added at (all .more) in
-            record {
-              answers = ap (λ (st : Sheet). st .cells) done;
-              bytes = rw (place, added) at (all .bytes);
-              all = omega arith;
-              few = omega (arith, all .more, all .few, ap work plan-is, work-is, joins-are);
-            }
+        -- The plan can be carried out,
+        pub plan-ready : Ready (parts .variables) base (work (planFrom links remain (found .order) (parts .vertices) 0)) cells o m
+        plan-ready =
+            let w = work-is in
+            let j = joins-are in
+            let e : parts .givens + operationsOf found
+            ≡ (parts .givens + joinsOf (networkOf file .switches)) + workOf (length (networkOf file .starts)) (linksOf (networkOf file .switches))
+            = omega arith in
+            rw plan-is
+            (record {
+              held = is .held;
+              table = table-after (parts .variables) base (parts .givens + joinsOf (networkOf file .switches))
+                  (workOf (length (networkOf file .starts)) (linksOf (networkOf file .switches))) (rw e at table) (is .grown);
+            })
+
+        module _ (cells′ out′ : List ℕ) (count : ℕ)
+            (ran : Ran (parts .variables) base (planFrom links remain (found .order) (parts .vertices) 0) cells o m cells′ out′ count) where
+          done : sheetIn cells′ out′ base count ≡ eliminated (networkOf file)
+          unfolding eliminated
+          done =
+              let p = variables-length (sound .layout) in
+              rw (p, ← plan-is, ← is .sheet) (ran .sheet)
+
+          -- and then the network is eliminated.
+          pub plan-solved : SolvedIn file parts found base out cells′ out′ count
+          unfolding sheetIn recordsIn entriesOf
+          plan-solved =
+              let grown = grown-then (parts .variables) base (parts .givens + joinsOf (networkOf file .switches))
+              (work (planFrom links remain (found .order) (parts .vertices) 0)) (is .grown) (ran .grown) in
+              let records : recordsIn out′ base count ≡ eliminated (networkOf file) .records = ap (λ (st : Sheet). st .records) done in
+              let added : grown .added ≡ eliminated (networkOf file) .records = sym (grown .records) ∙ records in
+              let place : base + 6 * 0 ≡ base = omega arith in
+              let more : count ≡ 0 + length (eliminated (networkOf file) .records) = rw added at (grown .more) in
+              record {
+                answers = ap (λ (st : Sheet). st .cells) done;
+                bytes = rw (place, added) at (grown .bytes);
+                all = omega arith;
+                few = omega (arith, grown .more, grown .few, ap work plan-is, work-is, joins-are);
+              }

@@ -18,7 +18,6 @@ use form::Reply;
 use network::SIDE;
 use network::Sections;
 use plan::Plan;
-use plan::TABLE;
 use reader::Checked;
 use sheet::CELLS;
 
@@ -37,9 +36,9 @@ fn solved(
     requires { ⌜ Table (parts .variables) base (parts .givens + operationsOf found) 0 (now out) ⌝ }
     ensures { λ r. ⌜ SolvedIn (now (file .entry)) parts found base (now (out .entry)) (now (cells .exit)) (now (out .exit)) r ⌝ }
 {
-    let mut links = [0; TABLE];
+    let mut links = [0; SIDE];
     let wired = wiring::wire_sheet(file, parts, cells, &mut links, out, base);
-    let rest = [1; SIDE];
+    let rest = rows::all(parts.vertices);
     let order = found.order;
     solve::eliminate_from(
         cells,
@@ -47,8 +46,8 @@ fn solved(
         base,
         parts.variables,
         wired,
-        &links,
-        &rest,
+        &mut links,
+        rest,
         &order,
         parts.vertices,
         0,

@@ -1,5 +1,5 @@
 -- Sums over lists of vertices, and the loop that adds the terms of the vertices up.
-use mathlib.Core.Path.{_≡_, refl}
+use mathlib.Core.Path.{_≡_, refl, sym}
 use mathlib.Core.Bool.{Bool, cond}
 use mathlib.Core.List.{List, [], _∷_, List·Memᴰ, List·Memᴰ·head, List·Memᴰ·tail}
 use Prim.Native.Nat.{ℕ, suc, _+_, _*_, _-_, _<_, _≤_}
@@ -22,12 +22,6 @@ total-keep f t [] = refl
 total-keep f t (v ∷ vs) =
     let below = total-keep f t vs in byTest (t v) (λ e. rw e (omega arith)) (λ e. rw e (omega arith))
 
--- One for each counts them.
-pub total-one : (vs : List ℕ) → total (λ v. 1) vs ≡ length vs
-unfolding total
-total-one [] = refl
-total-one (v ∷ vs) = omega (arith, total-one vs)
-
 -- Terms that agree give equal sums.
 pub total-same : (f h : ℕ → ℕ) → ((v : ℕ) → f v ≡ h v) → (vs : List ℕ) → total f vs ≡ total h vs
 unfolding total
@@ -39,6 +33,24 @@ pub total-add : (f h : ℕ → ℕ) (vs : List ℕ) → total f vs + total h vs 
 unfolding total
 total-add f h [] = refl
 total-add f h (v ∷ vs) = omega (arith, total-add f h vs)
+
+-- One for each and one more for those that pass.
+pub total-two : (t : ℕ → Bool) (vs : List ℕ) → total (λ v. cond (t v) 2 1) vs ≡ length vs + length (keep t vs)
+unfolding total
+total-two t [] = refl
+total-two t (v ∷ vs) =
+    let below = total-two t vs in byTest (t v) (λ e. rw e (omega arith)) (λ e. rw e (omega arith))
+
+total-none : (vs : List ℕ) → total (λ v. 0) vs ≡ 0
+unfolding total
+total-none [] = refl
+total-none (v ∷ vs) = omega (arith, total-none vs)
+
+-- A table of terms summed by rows or by columns.
+pub total-swap : (f : ℕ → ℕ → ℕ) (us vs : List ℕ) → total (λ u. total (f u) vs) us ≡ total (λ v. total (λ u. f u v) us) vs
+unfolding total
+total-swap f [] vs = sym (total-none vs)
+total-swap f (u ∷ us) vs = omega (arith, total-swap f us vs, total-add (f u) (λ v. total (λ w. f w v) us) vs)
 
 -- Where no term is above b, the sum is at most b for each.
 pub total-most : (f : ℕ → ℕ) (b : ℕ) (vs : List ℕ) → ((v : ℕ) → List·Memᴰ v vs → f v ≤ b) → total f vs ≤ b * length vs

@@ -1,12 +1,8 @@
-pub mod Matrix
-pub mod Degree
 pub mod Work
 pub mod Scan
-pub mod Gone
 pub mod Wire
 pub mod Plans
 pub mod Measure
 pub mod Rows
 pub mod Planned
 pub mod PlanLaws
-pub mod Unique

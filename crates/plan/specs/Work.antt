@@ -1,85 +1,93 @@
--- The work at a pivot, counted.
-use mathlib.Core.Path.{_≡_, sym, _∙_}
-use mathlib.Core.Bool.{cond, not}
+-- The work at a pivot, counted by the rows of its neighbours.
+use mathlib.Core.Path.{_≡_, sym, ap, _∙_}
+use mathlib.Core.Bool.{Bool, true, false, not, cond}
 use mathlib.Core.List.{List}
-use Prim.Native.Nat.{ℕ, _+_, _*_, _<_, _≤_}
+use Prim.Native.Nat.{ℕ, _+_, _*_, _^_, _<_, _≤_}
+use native.Mathlib.Omega.{arith}
 use borrow.Author.Tests.{eq-eqb, ne-eqb}
+use lib.Bits.{bitAnd, and-le-l}
+use lib.Count.{ones}
 use lib.Dec.{eqb}
-use lib.ListN.{getD}
-use Rattle.elimination.specs.WorkLaws.{labelWork, neighbourWork, pivotWork}
+use lib.ListN.{length, getD}
+use Rattle.elimination.specs.WorkLaws.{neighbourWork, pivotWork}
+use Rattle.laws.specs.Tests.{bySame}
 use Rattle.links.specs.Lists.{keep, without, vertices}
-use Rattle.links.specs.Links.{neighbours}
-use Rattle.links.specs.Sums.{total, total-keep, total-same, Summing, summing-all}
+use Rattle.links.specs.Links.{Graph}
+use Rattle.links.specs.ListLaws.{keep-keep, keep-same}
+use Rattle.links.specs.Sums.{total, total-keep, total-same, total-add, total-two, total-swap, Summing, summing-all}
 use Rattle.network.specs.Network.{side}
-use Rattle.plan.specs.Matrix.{linksIn, remaining, near, near-neighbours, is-linked, not-linked}
-use Rattle.plan.specs.Degree.{nearBy, near-no, near-yes}
+use Rattle.rows.specs.Row.{has, verticesIn, excluding, has-and, vertices-excluding, excluding-most}
+use Rattle.rows.specs.Counts.{ones-are}
+use Rattle.rows.specs.Table.{linksIn}
 
--- No neighbour has more work: 4, and 2 for each other vertex.
+-- No neighbour has more work: 4, and 2 for each bit of a row.
 abbrev pub neighbourMost : ℕ
-neighbourMost = 4 + 2 * side
+neighbourMost = 132
 
 -- No pivot has more.
 abbrev pub pivotMost : ℕ
 pivotMost = neighbourMost * side
 
--- For a neighbour u of p other than v, the work at the label from u to v.
-unfoldable pub labelAsked : List ℕ → List ℕ → ℕ → ℕ → ℕ → ℕ
-labelAsked links rest p v u = cond (near links rest p u) (cond (not (eqb v u)) (labelWork (linksIn links) v u) 0) 0
-
--- For a neighbour v of p, the work at v.
-unfoldable pub neighbourAsked : List ℕ → List ℕ → ℕ → ℕ → ℕ → ℕ
-neighbourAsked links rest n p v = cond (near links rest p v) (4 + total (labelAsked links rest p v) (vertices n)) 0
-
--- The work at p, with the neighbours that remain.
-unfoldable pub pivotAsked : List ℕ → List ℕ → ℕ → ℕ → ℕ
-pivotAsked links rest n p = pivotWork (linksIn links) (neighbours (linksIn links) (remaining n rest) p)
-
--- The ways out of `label_work`.
-module _ (links rest : List ℕ) (p v u x : ℕ) (e : x ≡ nearBy links rest p u) where
-  pub label-far : x ≡ 0 → 0 ≡ labelAsked links rest p v u
-  unfolding labelAsked
-  label-far z = rw (near-no links rest p u (sym e ∙ z))
-
-  module _ (z : x ≡ 0 → ⊥) where
-    pub label-self : v ≡ u → 0 ≡ labelAsked links rest p v u
-    unfolding labelAsked
-    label-self q = rw (near-yes links rest p u (λ k. z (e ∙ k)), eq-eqb v u q)
-
-    pub label-linked : (v ≡ u → ⊥) → v < side → getD links (side * u + v) 0 ≡ 1 → 2 ≡ labelAsked links rest p v u
-    unfolding labelAsked
-    label-linked d h l = rw (near-yes links rest p u (λ k. z (e ∙ k)), ne-eqb v u d, is-linked links u v h l)
-
-    pub label-new : (v ≡ u → ⊥) → v < side → (getD links (side * u + v) 0 ≡ 1 → ⊥) → 1 ≡ labelAsked links rest p v u
-    unfolding labelAsked
-    label-new d h l = rw (near-yes links rest p u (λ k. z (e ∙ k)), ne-eqb v u d, not-linked links u v h l)
+-- For a neighbour v, 4, one for each other neighbour, and one more for each that v is linked to.
+unfoldable pub neighbourAsked : List ℕ → ℕ → ℕ → ℕ
+neighbourAsked links near v = cond (has near v) (4 + ones (excluding near v) + ones (bitAnd (excluding near v) (getD links v 0))) 0
 
 -- The ways out of `neighbour_work`.
-module _ (links rest : List ℕ) (n p v x : ℕ) (e : x ≡ nearBy links rest p v) where
-  pub neighbour-far : x ≡ 0 → 0 ≡ neighbourAsked links rest n p v
+module _ (links : List ℕ) (near v : ℕ) (t : Bool) (test : t ≡ has near v) where
+  pub neighbour-far : t ≡ false → 0 ≡ neighbourAsked links near v
   unfolding neighbourAsked
-  neighbour-far z = rw (near-no links rest p v (sym e ∙ z))
+  neighbour-far e = rw (← test, e)
 
-  pub neighbour-near :
-      (x ≡ 0 → ⊥) → (sum u : ℕ) → Summing (labelAsked links rest p v) 2 n u sum → n ≤ u → 4 + sum ≡ neighbourAsked links rest n p v
+  pub neighbour-near : t ≡ true → (others a b : ℕ) → others ≡ excluding near v → a ≡ ones others → b ≡ ones (bitAnd others (getD links v 0))
+      → 4 + a + b ≡ neighbourAsked links near v
   unfolding neighbourAsked
-  neighbour-near z sum u inv h =
-      rw (near-yes links rest p v (λ k. z (e ∙ k)), ← summing-all (labelAsked links rest p v) 2 n u sum inv h)
+  neighbour-near e others a b o f g = rw (← test, e, ← o, ← f, ← g)
 
--- The sums are what the definitions count.
-module _ (links rest : List ℕ) (n p : ℕ) where
-  label-sum : (v : ℕ) → total (labelAsked links rest p v) (vertices n)
-      ≡ total (labelWork (linksIn links) v) (without v (keep (near links rest p) (vertices n)))
-  unfolding labelAsked
-  label-sum v =
-      sym (total-keep (labelWork (linksIn links) v) (λ u. not (eqb v u)) (keep (near links rest p) (vertices n))
-      ∙ total-keep (λ u. cond (not (eqb v u)) (labelWork (linksIn links) v u) 0) (near links rest p) (vertices n))
+-- The labels between the vertices of a list, counted at the vertex that each comes from or at the one that it leads to.
+labels-swap : (g : Graph) (ns : List ℕ) → total (λ v. total (λ u. cond (g v u) 2 1) (without v ns)) ns
+    ≡ total (λ v. total (λ u. cond (g u v) 2 1) (without v ns)) ns
+labels-swap g ns =
+    total-same _ _ (λ v. total-keep (λ u. cond (g v u) 2 1) (λ u. not (eqb v u)) ns) ns
+    ∙ total-swap (λ v u. cond (not (eqb v u)) (cond (g v u) 2 1) 0) ns ns
+    ∙ total-same _ _ (λ u. total-same _ _ (λ v. ap (λ (b : Bool). cond (not b) (cond (g v u) 2 1) 0) (turned v u)) ns
+    ∙ sym (total-keep (λ v. cond (g v u) 2 1) (λ v. not (eqb u v)) ns)) ns
+  where
+    turned : (v u : ℕ) → eqb v u ≡ eqb u v
+    turned v u = bySame v u (λ e. eq-eqb v u e ∙ sym (eq-eqb u v (sym e))) (λ d. ne-eqb v u d ∙ sym (ne-eqb u v (λ e. d (sym e))))
 
-  pivot-sum : total (neighbourAsked links rest n p) (vertices n) ≡ pivotAsked links rest n p
-  unfolding neighbourAsked pivotAsked neighbourWork pivotWork
-  pivot-sum =
-      rw (near-neighbours links rest n p)
-      (sym (total-keep (λ v. 4 + total (labelAsked links rest p v) (vertices n)) (near links rest p) (vertices n))
-      ∙ total-same _ _ (λ v. rw (label-sum v)) (keep (near links rest p) (vertices n)))
+module _ (links : List ℕ) (near n : ℕ) (few : near < 2 ^ n) where
+  -- The other neighbours that v is linked to.
+  linked-others : (others v : ℕ) → verticesIn n (bitAnd others (getD links v 0)) ≡ keep (linksIn links v) (verticesIn n others)
+  unfolding verticesIn linksIn
+  linked-others others v =
+      keep-same _ _ (vertices n) (λ u m. has-and others (getD links v 0) u) ∙ sym (keep-keep (has (getD links v 0)) (has others) (vertices n))
 
-  pub pivot-counted : (v sum : ℕ) → Summing (neighbourAsked links rest n p) neighbourMost n v sum → n ≤ v → sum ≡ pivotAsked links rest n p
-  pivot-counted v sum inv h = summing-all (neighbourAsked links rest n p) neighbourMost n v sum inv h ∙ pivot-sum
+  -- What is counted at v: the labels from it.
+  labels-from : (v : ℕ) → ones (excluding near v) + ones (bitAnd (excluding near v) (getD links v 0))
+      ≡ total (λ u. cond (linksIn links v u) 2 1) (without v (verticesIn n near))
+  labels-from v =
+      let others = excluding near v in
+      let row = getD links v 0 in
+      let us = without v (verticesIn n near) in
+      let are : verticesIn n others ≡ us = vertices-excluding n near v in
+      let less : others < 2 ^ n = omega (arith, excluding-most near v) in
+      let all : ones others ≡ length us = ones-are n others less ∙ ap length are in
+      let linked : ones (bitAnd others row) ≡ length (keep (linksIn links v) us)
+      = ones-are n (bitAnd others row) (omega (arith, and-le-l others row)) ∙ ap length (linked-others others v)
+      ∙ ap (λ (vs : List ℕ). length (keep (linksIn links v) vs)) are in
+      omega (arith, total-two (linksIn links v) us)
+
+  pub pivot-is : total (neighbourAsked links near) (vertices n) ≡ pivotWork (linksIn links) (verticesIn n near)
+  unfolding neighbourAsked pivotWork neighbourWork verticesIn
+  pivot-is =
+      let g = linksIn links in
+      let ns = verticesIn n near in
+      let from : ℕ → ℕ = λ v. total (λ u. cond (g v u) 2 1) (without v ns) in
+      let to : ℕ → ℕ = λ v. total (λ u. cond (g u v) 2 1) (without v ns) in
+      sym (total-keep (λ v. 4 + ones (excluding near v) + ones (bitAnd (excluding near v) (getD links v 0))) (has near) (vertices n))
+      ∙ total-same _ _ (λ v. omega (arith, labels-from v)) ns
+      ∙ sym (total-add (λ v. 4) from ns) ∙ ap (λ (x : ℕ). total (λ v. 4) ns + x) (labels-swap g ns) ∙ total-add (λ v. 4) to ns
+
+  pub pivot-counted : (v sum : ℕ) → Summing (neighbourAsked links near) neighbourMost n v sum → n ≤ v
+      → sum ≡ pivotWork (linksIn links) (verticesIn n near)
+  pivot-counted v sum inv h = summing-all (neighbourAsked links near) neighbourMost n v sum inv h ∙ pivot-is

@@ -1,12 +1,14 @@
 // The elimination carried out: each pivot passed in the planned order, and answered from last to first.
-ghost use Prim.Native.Nat.{_*_, _<_, _≤_};
+ghost use mathlib.Core.Path.{_≡_};
+ghost use Prim.Native.Nat.{_<_, _≤_};
+ghost use lib.ListN.{length};
 ghost use Rattle.network.specs.Network.{side};
 ghost use Rattle.operations.specs.Runs.{Ready, Ran};
+ghost use Rattle.rows.specs.Gone.{eliminated};
 ghost use Rattle.sheet.specs.Asks.{work};
-ghost use Rattle.solve.specs.Turns.{labelTurn, labelsTo, neighbourTurn, forwardIn, backTurn, backwardIn, planFrom};
-ghost use Rattle.solve.specs.Levels.{Level, Onward};
+ghost use Rattle.solve.specs.Turns.{labelTurn, labelsTo, neighbourTurn, forwardIn, backTurn, backwardIn, pivotsFrom, planFrom};
+ghost use Rattle.solve.specs.Levels.{linksAfter, Level};
 use network::SIDE;
-use plan::TABLE;
 use sheet::Ask;
 use sheet::CELLS;
 use sheet::Cell;
@@ -18,29 +20,29 @@ fn label_turn(
     base: usize,
     p: usize,
     count: usize,
-    links: &[u8; TABLE],
-    rest: &[u8; SIDE],
+    links: &[u64; SIDE],
+    near: u64,
     pivot: usize,
     v: usize,
     u: usize,
 ) -> usize
-    requires { ⌜ Ready p base (work (labelTurn (now links) (now rest) pivot v u)) (now cells) (now out) count ⌝ }
+    requires { ⌜ Ready p base (work (labelTurn (now links) near pivot v u)) (now cells) (now out) count ⌝ }
     requires { ⌜ (pivot < side) × (v < side) × (u < side) ⌝ }
-    ensures { λ r. ⌜ Ran p base (labelTurn (now (links .entry)) (now (rest .entry)) pivot v u) (now (cells .entry)) (now (out .entry)) count (now (cells .exit)) (now (out .exit)) r ⌝ }
+    ensures { λ r. ⌜ Ran p base (labelTurn (now (links .entry)) near pivot v u) (now (cells .entry)) (now (out .entry)) count (now (cells .exit)) (now (out .exit)) r ⌝ }
 {
-    if plan::near_by(links, rest, pivot, u) == 0 {
-        return count;
+    if rows::has(near, u) {
+        if v == u {
+            return count;
+        }
+        let x = Ask {
+            joined: rows::has(links[u], v),
+            to: Cell::Label(u, v),
+            a: Cell::Label(u, pivot),
+            b: Cell::Label(pivot, v),
+        };
+        return operations::ask(cells, out, base, p, count, x);
     }
-    if v == u {
-        return count;
-    }
-    let x = Ask {
-        joined: links[SIDE * u + v] == 1,
-        to: Cell::Label(u, v),
-        a: Cell::Label(u, pivot),
-        b: Cell::Label(pivot, v),
-    };
-    operations::ask(cells, out, base, p, count, x)
+    count
 }
 
 // The labels to v from every other neighbour.
@@ -50,20 +52,20 @@ fn pass_labels(
     base: usize,
     p: usize,
     count: usize,
-    links: &[u8; TABLE],
-    rest: &[u8; SIDE],
+    links: &[u64; SIDE],
+    near: u64,
     n: usize,
     pivot: usize,
     v: usize,
 ) -> usize
-    requires { ⌜ Ready p base (work (labelsTo (now links) (now rest) n pivot v)) (now cells) (now out) count ⌝ }
+    requires { ⌜ Ready p base (work (labelsTo (now links) near n pivot v)) (now cells) (now out) count ⌝ }
     requires { ⌜ (n ≤ side) × (pivot < side) × (v < side) ⌝ }
-    ensures { λ r. ⌜ Ran p base (labelsTo (now (links .entry)) (now (rest .entry)) n pivot v) (now (cells .entry)) (now (out .entry)) count (now (cells .exit)) (now (out .exit)) r ⌝ }
+    ensures { λ r. ⌜ Ran p base (labelsTo (now (links .entry)) near n pivot v) (now (cells .entry)) (now (out .entry)) count (now (cells .exit)) (now (out .exit)) r ⌝ }
 {
     let mut made = count;
     let mut u = 0;
     while u < n {
-        made = label_turn(cells, out, base, p, made, links, rest, pivot, v, u);
+        made = label_turn(cells, out, base, p, made, links, near, pivot, v, u);
         u += 1;
     }
     made
@@ -76,27 +78,27 @@ fn neighbour_turn(
     base: usize,
     p: usize,
     count: usize,
-    links: &[u8; TABLE],
-    rest: &[u8; SIDE],
+    links: &[u64; SIDE],
+    near: u64,
     n: usize,
     pivot: usize,
     v: usize,
 ) -> usize
-    requires { ⌜ Ready p base (work (neighbourTurn (now links) (now rest) n pivot v)) (now cells) (now out) count ⌝ }
+    requires { ⌜ Ready p base (work (neighbourTurn (now links) near n pivot v)) (now cells) (now out) count ⌝ }
     requires { ⌜ (n ≤ side) × (pivot < side) × (v < side) ⌝ }
-    ensures { λ r. ⌜ Ran p base (neighbourTurn (now (links .entry)) (now (rest .entry)) n pivot v) (now (cells .entry)) (now (out .entry)) count (now (cells .exit)) (now (out .exit)) r ⌝ }
+    ensures { λ r. ⌜ Ran p base (neighbourTurn (now (links .entry)) near n pivot v) (now (cells .entry)) (now (out .entry)) count (now (cells .exit)) (now (out .exit)) r ⌝ }
 {
-    if plan::near_by(links, rest, pivot, v) == 0 {
-        return count;
+    if rows::has(near, v) {
+        let x = Ask {
+            joined: true,
+            to: Cell::Start(v),
+            a: Cell::Start(pivot),
+            b: Cell::Label(pivot, v),
+        };
+        let made = operations::ask(cells, out, base, p, count, x);
+        return pass_labels(cells, out, base, p, made, links, near, n, pivot, v);
     }
-    let x = Ask {
-        joined: true,
-        to: Cell::Start(v),
-        a: Cell::Start(pivot),
-        b: Cell::Label(pivot, v),
-    };
-    let made = operations::ask(cells, out, base, p, count, x);
-    pass_labels(cells, out, base, p, made, links, rest, n, pivot, v)
+    count
 }
 
 // All that leads over the pivot to its neighbours.
@@ -106,19 +108,19 @@ fn forward(
     base: usize,
     p: usize,
     count: usize,
-    links: &[u8; TABLE],
-    rest: &[u8; SIDE],
+    links: &[u64; SIDE],
+    near: u64,
     n: usize,
     pivot: usize,
 ) -> usize
-    requires { ⌜ Ready p base (work (forwardIn (now links) (now rest) n pivot)) (now cells) (now out) count ⌝ }
+    requires { ⌜ Ready p base (work (forwardIn (now links) near n pivot)) (now cells) (now out) count ⌝ }
     requires { ⌜ (n ≤ side) × (pivot < side) ⌝ }
-    ensures { λ r. ⌜ Ran p base (forwardIn (now (links .entry)) (now (rest .entry)) n pivot) (now (cells .entry)) (now (out .entry)) count (now (cells .exit)) (now (out .exit)) r ⌝ }
+    ensures { λ r. ⌜ Ran p base (forwardIn (now (links .entry)) near n pivot) (now (cells .entry)) (now (out .entry)) count (now (cells .exit)) (now (out .exit)) r ⌝ }
 {
     let mut made = count;
     let mut v = 0;
     while v < n {
-        made = neighbour_turn(cells, out, base, p, made, links, rest, n, pivot, v);
+        made = neighbour_turn(cells, out, base, p, made, links, near, n, pivot, v);
         v += 1;
     }
     made
@@ -131,25 +133,24 @@ fn back_turn(
     base: usize,
     p: usize,
     count: usize,
-    links: &[u8; TABLE],
-    rest: &[u8; SIDE],
+    near: u64,
     pivot: usize,
     u: usize,
 ) -> usize
-    requires { ⌜ Ready p base (work (backTurn (now links) (now rest) pivot u)) (now cells) (now out) count ⌝ }
+    requires { ⌜ Ready p base (work (backTurn near pivot u)) (now cells) (now out) count ⌝ }
     requires { ⌜ (pivot < side) × (u < side) ⌝ }
-    ensures { λ r. ⌜ Ran p base (backTurn (now (links .entry)) (now (rest .entry)) pivot u) (now (cells .entry)) (now (out .entry)) count (now (cells .exit)) (now (out .exit)) r ⌝ }
+    ensures { λ r. ⌜ Ran p base (backTurn near pivot u) (now (cells .entry)) (now (out .entry)) count (now (cells .exit)) (now (out .exit)) r ⌝ }
 {
-    if plan::near_by(links, rest, pivot, u) == 0 {
-        return count;
+    if rows::has(near, u) {
+        let x = Ask {
+            joined: true,
+            to: Cell::Start(pivot),
+            a: Cell::Start(u),
+            b: Cell::Label(u, pivot),
+        };
+        return operations::ask(cells, out, base, p, count, x);
     }
-    let x = Ask {
-        joined: true,
-        to: Cell::Start(pivot),
-        a: Cell::Start(u),
-        b: Cell::Label(u, pivot),
-    };
-    operations::ask(cells, out, base, p, count, x)
+    count
 }
 
 // The answer of the pivot.
@@ -159,84 +160,70 @@ fn backward(
     base: usize,
     p: usize,
     count: usize,
-    links: &[u8; TABLE],
-    rest: &[u8; SIDE],
+    near: u64,
     n: usize,
     pivot: usize,
 ) -> usize
-    requires { ⌜ Ready p base (work (backwardIn (now links) (now rest) n pivot)) (now cells) (now out) count ⌝ }
+    requires { ⌜ Ready p base (work (backwardIn near n pivot)) (now cells) (now out) count ⌝ }
     requires { ⌜ (n ≤ side) × (pivot < side) ⌝ }
-    ensures { λ r. ⌜ Ran p base (backwardIn (now (links .entry)) (now (rest .entry)) n pivot) (now (cells .entry)) (now (out .entry)) count (now (cells .exit)) (now (out .exit)) r ⌝ }
+    ensures { λ r. ⌜ Ran p base (backwardIn near n pivot) (now (cells .entry)) (now (out .entry)) count (now (cells .exit)) (now (out .exit)) r ⌝ }
 {
     let mut made = count;
     let mut u = 0;
     while u < n {
-        made = back_turn(cells, out, base, p, made, links, rest, pivot, u);
+        made = back_turn(cells, out, base, p, made, near, pivot, u);
         u += 1;
     }
     made
 }
 
-// Passes the pivot at place k: what leads over it, then its neighbours are linked pairwise, and it remains no more.
+// Passes a pivot with these neighbours: what leads over it, and then its neighbours are linked pairwise.
 fn pass(
     cells: &mut [u16; CELLS],
     out: &mut [u8],
     base: usize,
     p: usize,
     count: usize,
-    links: &mut [u8; TABLE],
-    rest: &mut [u8; SIDE],
-    order: &[usize; SIDE],
+    links: &mut [u64; SIDE],
+    near: u64,
     n: usize,
-    k: usize,
+    pivot: usize,
 ) -> usize
-    requires { ⌜ Ready p base (work (planFrom (now links) (now rest) (now order) n k)) (now cells) (now out) count ⌝ }
-    requires { ⌜ Level (now links) (now rest) (now order) n k ⌝ }
-    requires { ⌜ k < n ⌝ }
-    ensures { λ r. ⌜ Onward p base (now (links .entry)) (now (rest .entry)) (now (order .entry)) n k (now (links .exit)) (now (rest .exit)) (now (cells .entry)) (now (out .entry)) count (now (cells .exit)) (now (out .exit)) r ⌝ }
+    requires { ⌜ Ready p base (work (forwardIn (now links) near n pivot)) (now cells) (now out) count ⌝ }
+    requires { ⌜ (n ≤ side) × (pivot < side) × (length (now links) ≡ side) ⌝ }
+    ensures { λ r. ⌜ Ran p base (forwardIn (now (links .entry)) near n pivot) (now (cells .entry)) (now (out .entry)) count (now (cells .exit)) (now (out .exit)) r ⌝ }
+    ensures { λ r. ⌜ now (links .exit) ≡ eliminated pivot (now (links .entry)) ⌝ }
 {
-    let pivot = order[k];
-    let made = forward(cells, out, base, p, count, links, rest, n, pivot);
-    plan::eliminate(links, pivot);
-    rest[pivot] = 0;
+    let made = forward(cells, out, base, p, count, links, near, n, pivot);
+    rows::eliminate(links, pivot);
     made
 }
 
-// Eliminates the pivots from place k of the order on, and answers them from last to first.
+// Eliminates the pivots from place k of the order on, and answers them from last to first. A pivot's neighbours are kept until it is answered.
 pub fn eliminate_from(
     cells: &mut [u16; CELLS],
     out: &mut [u8],
     base: usize,
     p: usize,
     count: usize,
-    links: &[u8; TABLE],
-    rest: &[u8; SIDE],
+    links: &mut [u64; SIDE],
+    rest: u64,
     order: &[usize; SIDE],
     n: usize,
     k: usize,
 ) -> usize
-    requires { ⌜ Ready p base (work (planFrom (now links) (now rest) (now order) n k)) (now cells) (now out) count ⌝ }
-    requires { ⌜ Level (now links) (now rest) (now order) n k ⌝ }
-    ensures { λ r. ⌜ Ran p base (planFrom (now (links .entry)) (now (rest .entry)) (now (order .entry)) n k) (now (cells .entry)) (now (out .entry)) count (now (cells .exit)) (now (out .exit)) r ⌝ }
+    requires { ⌜ Ready p base (work (planFrom (now links) rest (now order) n k)) (now cells) (now out) count ⌝ }
+    requires { ⌜ Level (now links) (now order) n k ⌝ }
+    ensures { λ r. ⌜ Ran p base (planFrom (now (links .entry)) rest (now (order .entry)) n k) (now (cells .entry)) (now (out .entry)) count (now (cells .exit)) (now (out .exit)) r ⌝ }
+    ensures { λ r. ⌜ now (links .exit) ≡ linksAfter (pivotsFrom (now (order .entry)) n k) (now (links .entry)) ⌝ }
 {
     if k == n {
         return count;
     }
     let pivot = order[k];
-    let mut after = *links;
-    let mut left = *rest;
-    let made = pass(
-        cells,
-        out,
-        base,
-        p,
-        count,
-        &mut after,
-        &mut left,
-        order,
-        n,
-        k,
-    );
-    let answered = eliminate_from(cells, out, base, p, made, &after, &left, order, n, k + 1);
-    backward(cells, out, base, p, answered, links, rest, n, pivot)
+    let near = rows::near(links, rest, pivot);
+    let made = pass(cells, out, base, p, count, links, near, n, pivot);
+    let left = rows::excluding(rest, pivot);
+    let answered = eliminate_from(cells, out, base, p, made, links, left, order, n, k + 1);
+    backward(cells, out, base, p, answered, near, n, pivot)
 }

@@ -1,11 +1,11 @@
 -- The labels of a switch: set where they are the first of their pair, and else joined.
-use mathlib.Core.Path.{_≡_, refl, ap, _∙_}
-use mathlib.Core.Bool.{cond}
+use mathlib.Core.Path.{_≡_, refl, sym, ap, _∙_}
+use mathlib.Core.Bool.{Bool, true, false, cond}
 use mathlib.Core.List.{List}
-use Prim.Native.Nat.{ℕ, _+_, _*_, _<_}
+use Prim.Native.Nat.{ℕ, _+_, _<_}
 use native.Mathlib.Omega.{arith}
 use borrow.Author.Tests.{eq-eqb, ne-eqb}
-use lib.ListN.{length, getD, set}
+use lib.ListN.{getD, set}
 use Rattle.laws.specs.Tests.{byTest}
 use Rattle.form.specs.References.{kindOr, formula}
 use Rattle.formula.specs.Make.{Outcome, old, make}
@@ -27,7 +27,8 @@ use Rattle.sheet.specs.PerformLaws.{keeps-label}
 use Rattle.sheet.specs.declared.Cell.the-variants.{Label}
 use Rattle.operations.specs.Runs.{sheetIn, Ready, Runs, ready-less, ready-after}
 use Rattle.operations.specs.Ways.{runs-put}
-use Rattle.plan.specs.Matrix.{linksIn, is-linked, not-linked}
+use Rattle.rows.specs.Row.{has}
+use Rattle.rows.specs.Table.{linksIn}
 use Rattle.analysis.specs.Wiring.{setOrJoin, labelled}
 
 -- The joins at the label from u to v: one where the pair has a label.
@@ -59,26 +60,27 @@ module _ (p base : ℕ) (links : List ℕ) (u v : ℕ) (hu : u < side) (hv : v <
       keeps-label p (recordsIn s base n) (ready .table .orderly) (cellsIn cells (Label u v)) r
       (omega (arith, hw, cell-at cells (Label u v) (hu, hv))) (omega arith) (linksIn links u v)
 
-  pub label-set : (getD links (side * u + v) 0 ≡ 1 → ⊥) → (r : ℕ) → r < formula p n → (written : List ℕ)
+  pub label-set : (t : Bool) → t ≡ has (getD links u 0) v → t ≡ false → (r : ℕ) → r < formula p n → (written : List ℕ)
       → written ≡ set cells (placeOf (Label u v)) r
       → Runs p base (setOrJoin p (linksIn links) u v r) (joinAt (linksIn links) u v) cells s n written s n
-  unfolding setOrJoin sheetIn outcome
-  label-set e r hr written q =
+  unfolding setOrJoin sheetIn outcome linksIn
+  label-set t test e r hr written q =
       let m : Made = record { reference = record { number = r }; count = n } in
-      let gives : Gives (outcome r (sheetIn cells s base n)) base n s s m = rw (not-linked links u v hv e) (gives-old base n s m r refl refl) in
+      let gives : Gives (outcome r (sheetIn cells s base n)) base n s s m = rw (sym test ∙ e) (gives-old base n s m r refl refl) in
       rw q (runs-put p base (joinAt (linksIn links) u v) (outcome r) (Label u v) cells s s n m (hu, hv) (ready .held) (keeps r hr) gives)
 
-  module _ (e : getD links (side * u + v) 0 ≡ 1) where
+  module _ (t : Bool) (test : t ≡ has (getD links u 0) v) (e : t ≡ true) where
     pub label-room : Room p base n s
-    label-room = table-room p base 1 (omega arith) (rw (is-linked links u v hv e) at (ready .table))
+    unfolding linksIn
+    label-room = table-room p base 1 (omega arith) (rw (sym test ∙ e) at (ready .table))
 
-    pub label-joined : (was r : ℕ) → was ≡ cellsIn cells (Label u v) → r < formula p n → (t : List ℕ) (m : Made)
-        → Makes (make p kindOr was r) base n s t m → (written : List ℕ) → written ≡ set cells (placeOf (Label u v)) (m .reference .number)
-        → Runs p base (setOrJoin p (linksIn links) u v r) (joinAt (linksIn links) u v) cells s n written t (m .count)
-    unfolding setOrJoin sheetIn outcome
-    label-joined was r ew hr t m made written q =
-        let gives : Gives (outcome r (sheetIn cells s base n)) base n s t m = rw (is-linked links u v hv e) (rw ew at made) in
-        rw q (runs-put p base (joinAt (linksIn links) u v) (outcome r) (Label u v) cells s t n m (hu, hv) (ready .held) (keeps r hr) gives)
+    pub label-joined : (was r : ℕ) → was ≡ cellsIn cells (Label u v) → r < formula p n → (s′ : List ℕ) (m : Made)
+        → Makes (make p kindOr was r) base n s s′ m → (written : List ℕ) → written ≡ set cells (placeOf (Label u v)) (m .reference .number)
+        → Runs p base (setOrJoin p (linksIn links) u v r) (joinAt (linksIn links) u v) cells s n written s′ (m .count)
+    unfolding setOrJoin sheetIn outcome linksIn
+    label-joined was r ew hr s′ m made written q =
+        let gives : Gives (outcome r (sheetIn cells s base n)) base n s s′ m = rw (sym test ∙ e) (rw ew at made) in
+        rw q (runs-put p base (joinAt (linksIn links) u v) (outcome r) (Label u v) cells s s′ n m (hu, hv) (ready .held) (keeps r hr) gives)
 
 -- The ways out of `set_labels`.
 module _ (p base : ℕ) (g : Graph) (w : Switch) {c o : List ℕ} {n : ℕ} (x : Labelling p base g w c o n) where

@@ -1,10 +1,9 @@
 -- The sheet from which the elimination starts, in an array of cells and a lent buffer.
 use mathlib.Core.Path.{_≡_, ap, _∙_}
 use mathlib.Core.List.{List}
-use Prim.Native.Nat.{ℕ, _+_, _*_}
+use Prim.Native.Nat.{ℕ, _+_}
 use native.Mathlib.Omega.{arith}
 use lib.ListN.{length}
-use Rattle.laws.specs.Bits.{Bits}
 use Rattle.formula.specs.Givens.{Passed}
 use Rattle.network.specs.Network.{edition, side, networkOf}
 use Rattle.network.specs.Layout.{Sound}
@@ -15,7 +14,7 @@ use Rattle.givens.specs.Passed.{passedOf, PassedIn}
 use Rattle.links.specs.Switches.{noLinks, linksOf, joinsOf}
 use Rattle.sheet.specs.Perform.{Sheet}
 use Rattle.operations.specs.Runs.{sheetIn, Held, Ready}
-use Rattle.plan.specs.Matrix.{linksIn}
+use Rattle.rows.specs.Table.{linksIn}
 use Rattle.analysis.specs.Wiring.{passed, translated, starting, wireAll, wired}
 use Rattle.wiring.specs.Switches.{Translating, Wires}
 use Rattle.wiring.specs.Starts.{Started, started-held, started-cells}
@@ -26,8 +25,7 @@ pub record WiredIn (file : List ℕ) (parts : Sections) (base : ℕ) (out cells�
   pub grown : Grown (parts .variables) base (parts .givens + joinsOf (networkOf file .switches)) out 0 out′ count
   pub held : Held (parts .variables) count cells′
   pub graph : linksIn links′ ≡ linksOf (networkOf file .switches)
-  pub bits : Bits links′
-  pub long : length links′ ≡ side * side
+  pub long : length links′ ≡ side
 
 module _ (file : List ℕ) (parts : Sections) (sound : Sound edition file parts) (base : ℕ) (out : List ℕ)
     (table : Table (parts .variables) base (parts .givens + joinsOf (networkOf file .switches)) 0 out) where
@@ -76,6 +74,5 @@ module _ (file : List ℕ) (parts : Sections) (sound : Sound edition file parts)
             grown = grown-then (parts .variables) base (parts .givens) (joinsOf (networkOf file .switches)) (all .grown) (x .runs .grown);
             held = x .runs .held;
             graph = x .graph;
-            bits = x .bits;
             long = x .long;
           }

@@ -1,12 +1,11 @@
 -- The switches of an accepted file, wired one by one.
 use mathlib.Core.Path.{_≡_, sym, _∙_, fun-ext}
 use mathlib.Core.List.{List, _∷_}
-use Prim.Native.Nat.{ℕ, suc, _+_, _*_, _≤_, _<_}
+use Prim.Native.Nat.{ℕ, suc, _+_, _≤_, _<_}
 use native.Mathlib.Omega.{arith}
 use native.Mathlib.Numerals.{add-one}
 use lib.ListN.{length, getD, drop, replicate, length-replicate}
 use lib.Seq.{drop-cons, drop-length}
-use Rattle.laws.specs.Bits.{Bits, zero-bits}
 use Rattle.form.specs.References.{formula}
 use Rattle.formula.specs.Givens.{translate}
 use Rattle.network.specs.Network.{edition, side, networkOf}
@@ -20,8 +19,8 @@ use Rattle.links.specs.Switches.{link, joinsAt, linksFrom, joinsFrom, noLinks, 
 use Rattle.links.specs.Symmetry.{Symmetric, symmetric-none, symmetric-link}
 use Rattle.sheet.specs.Perform.{Sheet}
 use Rattle.operations.specs.Runs.{sheetIn, Ready, Runs, ready-less, ready-after}
-use Rattle.plan.specs.Matrix.{linksIn, none-linked}
-use Rattle.plan.specs.Wire.{Connects, connected-bits}
+use Rattle.rows.specs.Table.{linksIn, none-linked}
+use Rattle.rows.specs.Connect.{Connects}
 use Rattle.analysis.specs.Wiring.{translated, labelled, translateSwitch, wire, wireAll}
 use Rattle.wiring.specs.Labels.{Labelling}
 
@@ -40,16 +39,14 @@ pub record Wirable (p base : ℕ) (references cells links out : List ℕ) (count
   pub below : (x : ℕ) → translate p references x < formula p count
   pub ready : Ready p base (joinsAt w (linksIn links)) cells out count
   pub symmetric : Symmetric (linksIn links)
-  pub bits : Bits links
-  pub long : length links ≡ side * side
+  pub long : length links ≡ side
 
 -- The sheet has become what f makes of it, with so many records more at most, and these are the links.
 pub record Wires (p base : ℕ) (f : Sheet → Sheet) (most : ℕ) (g : Graph) (cells out : List ℕ) (count : ℕ) (cells′ links′ out′ : List ℕ)
     (count′ : ℕ) : Type 0 where
   pub runs : Runs p base f most cells out count cells′ out′ count′
   pub graph : linksIn links′ ≡ g
-  pub bits : Bits links′
-  pub long : length links′ ≡ side * side
+  pub long : length links′ ≡ side
 
 -- The ways out of `wire_switch`.
 module _ (p base : ℕ) (references cells links out : List ℕ) (n : ℕ) (w : Switch) (x : Wirable p base references cells links out n w) where
@@ -73,7 +70,7 @@ module _ (p base : ℕ) (references cells links out : List ℕ) (n : ℕ) (w : S
       → Wires p base (labelled p (linksIn links) (translateSwitch p references w)) (joinsAt w (linksIn links)) (link w (linksIn links)) cells out n c l o m
   unfolding joinsAt translateSwitch
   wires-one there back et eb t e c o m runs l r connects =
-      record { runs = rw (e, et, eb) at runs; graph = connects .graph; bits = rw (connects .bytes) (connected-bits w links (x .bits)); long = connects .long }
+      record { runs = rw (e, et, eb) at runs; graph = connects .graph; long = connects .long }
 
 -- The first k switches have been wired: what is left gives the whole, and there is room for the joins that are left.
 pub record Joining (file : List ℕ) (parts : Sections) (base : ℕ) (references c₀ o₀ : List ℕ) (n₀ k : ℕ) (cells links out : List ℕ) (count : ℕ)
@@ -90,8 +87,7 @@ pub record Joining (file : List ℕ) (parts : Sections) (base : ℕ) (references
   pub ready : Ready (parts .variables) base (joinsFrom (linksIn links) (drop k (networkOf file .switches))) cells out count
   pub translates : Translating file parts references count
   pub symmetric : Symmetric (linksIn links)
-  pub bits : Bits links
-  pub long : length links ≡ side * side
+  pub long : length links ≡ side
 
 module _ (file : List ℕ) (parts : Sections) (sound : Sound edition file parts) (k : ℕ) (w : Switch) (read : SwitchRead file parts k w) where
   -- What is left begins with switch k.
@@ -114,7 +110,7 @@ module _ (file : List ℕ) (parts : Sections) (sound : Sound edition file parts)
       fun-ext (λ st. rw (t .is (w .there) (read .range .there), t .is (w .back) (read .range .back), ← variables-length (sound .layout)))
 
 module _ (file : List ℕ) (parts : Sections) (base : ℕ) (references c₀ o₀ : List ℕ) (n₀ : ℕ) where
-  pub joining-none : Sound edition file parts → (links : List ℕ) → links ≡ replicate (side * side) 0 → Translating file parts references n₀
+  pub joining-none : Sound edition file parts → (links : List ℕ) → links ≡ replicate side 0 → Translating file parts references n₀
       → Ready (parts .variables) base (joinsOf (networkOf file .switches)) c₀ o₀ n₀
       → Joining file parts base references c₀ o₀ n₀ 0 c₀ links o₀ n₀
   unfolding linksOf joinsOf
@@ -131,8 +127,7 @@ module _ (file : List ℕ) (parts : Sections) (base : ℕ) (references c₀ o₀
         ready = rw g r;
         translates = t;
         symmetric = rw g symmetric-none;
-        bits = rw e (zero-bits (side * side));
-        long = rw e (length-replicate {A = ℕ} (side * side) 0);
+        long = rw e (length-replicate {A = ℕ} side 0);
       }
 
   -- What a turn makes of the sheet comes first: it shows which switch is meant.
@@ -159,7 +154,6 @@ module _ (file : List ℕ) (parts : Sections) (base : ℕ) (references c₀ o₀
         ready = rw (add-one, x .graph) (ready-after p base _ (joinsAt w g) left (rw j at (inv .ready)) (x .runs));
         translates = record { is = inv .translates .is; below = λ i. omega (arith, inv .translates .below i, x .runs .grown .more) };
         symmetric = rw (x .graph) (symmetric-link w g (inv .symmetric));
-        bits = x .bits;
         long = x .long;
       }
 
@@ -181,7 +175,6 @@ module _ (file : List ℕ) (parts : Sections) (base : ℕ) (references c₀ o₀
           below = inv .translates .below;
           ready = ready-less (parts .variables) base _ (joinsAt w (linksIn links)) (omega (arith, j)) (inv .ready);
           symmetric = inv .symmetric;
-          bits = inv .bits;
           long = inv .long;
         }
 
@@ -196,6 +189,5 @@ module _ (file : List ℕ) (parts : Sections) (base : ℕ) (references c₀ o₀
         record {
           runs = record { sheet = rw (e, drop-length ws) at (inv .left); grown = rw z at (inv .grown); held = inv .ready .held };
           graph = rw (e, drop-length ws) at (inv .graph);
-          bits = inv .bits;
           long = inv .long;
         }

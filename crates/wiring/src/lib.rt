@@ -1,6 +1,6 @@
 // The sheet from which the elimination starts: starts and labels translated, labels joined.
 ghost use mathlib.Core.Path.{_≡_};
-ghost use Prim.Native.Nat.{_+_, _*_, _<_};
+ghost use Prim.Native.Nat.{_+_, _<_};
 ghost use lib.ListN.{replicate};
 ghost use Rattle.form.specs.References.{formula};
 ghost use Rattle.network.specs.Layout.{Sound};
@@ -9,7 +9,7 @@ ghost use Rattle.records.specs.Grown.{Table};
 ghost use Rattle.links.specs.Switches.{link, joinsAt, noLinks, linksOf, joinsOf};
 ghost use Rattle.sheet.specs.Cells.{cellCount};
 ghost use Rattle.operations.specs.Runs.{Ready, Runs};
-ghost use Rattle.plan.specs.Matrix.{linksIn};
+ghost use Rattle.rows.specs.Table.{linksIn};
 ghost use Rattle.analysis.specs.Wiring.{setOrJoin, labelled, translateSwitch, wireAll};
 ghost use Rattle.wiring.specs.Labels.{joinAt, Labelling};
 ghost use Rattle.wiring.specs.Switches.{Translating, Wirable, Wires};
@@ -20,7 +20,6 @@ use givens::GIVENS;
 use network::SIDE;
 use network::Sections;
 use network::Switch;
-use plan::TABLE;
 use sheet::CELLS;
 use sheet::Cell;
 
@@ -31,7 +30,7 @@ fn set_or_join(
     base: usize,
     p: usize,
     count: usize,
-    links: &[u8; TABLE],
+    links: &[u64; SIDE],
     u: usize,
     v: usize,
     r: Reference,
@@ -40,14 +39,14 @@ fn set_or_join(
     requires { ⌜ (u < side) × (v < side) × (r .number < formula p count) ⌝ }
     ensures { λ n. ⌜ Runs p base (setOrJoin p (linksIn (now (links .entry))) u v (r .number)) (joinAt (linksIn (now (links .entry))) u v) (now (cells .entry)) (now (out .entry)) count (now (cells .exit)) (now (out .exit)) n ⌝ }
 {
-    if links[SIDE * u + v] != 1 {
-        operations::put(cells, Cell::Label(u, v), r);
-        return count;
+    if rows::has(links[u], v) {
+        let old = operations::held(cells, Cell::Label(u, v));
+        let m = records::make(out, base, p, count, records::OR, old, r);
+        operations::put(cells, Cell::Label(u, v), m.reference);
+        return m.count;
     }
-    let old = operations::held(cells, Cell::Label(u, v));
-    let m = records::make(out, base, p, count, records::OR, old, r);
-    operations::put(cells, Cell::Label(u, v), m.reference);
-    m.count
+    operations::put(cells, Cell::Label(u, v), r);
+    count
 }
 
 // Both labels of a switch whose references are translated: first end to second end, then back.
@@ -57,7 +56,7 @@ fn set_labels(
     base: usize,
     p: usize,
     count: usize,
-    links: &[u8; TABLE],
+    links: &[u64; SIDE],
     w: Switch,
 ) -> usize
     requires { ⌜ Labelling p base (linksIn (now links)) w (now cells) (now out) count ⌝ }
@@ -78,7 +77,7 @@ fn set_labels(
 fn wire_switch(
     references: &[u16; GIVENS],
     cells: &mut [u16; CELLS],
-    links: &mut [u8; TABLE],
+    links: &mut [u64; SIDE],
     out: &mut [u8],
     base: usize,
     p: usize,
@@ -97,7 +96,7 @@ fn wire_switch(
         back: back.number,
     };
     let n = set_labels(cells, out, base, p, count, links, t);
-    plan::connect(links, w);
+    rows::connect(links, w);
     n
 }
 
@@ -107,14 +106,14 @@ fn wire_switches(
     parts: Sections,
     references: &[u16; GIVENS],
     cells: &mut [u16; CELLS],
-    links: &mut [u8; TABLE],
+    links: &mut [u64; SIDE],
     out: &mut [u8],
     base: usize,
     count: usize,
 ) -> usize
     requires { ⌜ Sound edition (now file) parts ⌝ }
     requires { ⌜ Translating (now file) parts (now references) count ⌝ }
-    requires { ⌜ now links ≡ replicate (side * side) 0 ⌝ }
+    requires { ⌜ now links ≡ replicate side 0 ⌝ }
     requires { ⌜ Ready (parts .variables) base (joinsOf (networkOf (now file) .switches)) (now cells) (now out) count ⌝ }
     ensures { λ n. ⌜ Wires (parts .variables) base (wireAll (networkOf (now (file .entry))) noLinks (networkOf (now (file .entry)) .switches)) (joinsOf (networkOf (now (file .entry)) .switches)) (linksOf (networkOf (now (file .entry)) .switches)) (now (cells .entry)) (now (out .entry)) count (now (cells .exit)) (now (links .exit)) (now (out .exit)) n ⌝ }
 {
@@ -152,13 +151,13 @@ pub fn wire_sheet(
     file: &[u8],
     parts: Sections,
     cells: &mut [u16; CELLS],
-    links: &mut [u8; TABLE],
+    links: &mut [u64; SIDE],
     out: &mut [u8],
     base: usize,
 ) -> usize
     requires { ⌜ Sound edition (now file) parts ⌝ }
     requires { ⌜ now cells ≡ replicate cellCount 0 ⌝ }
-    requires { ⌜ now links ≡ replicate (side * side) 0 ⌝ }
+    requires { ⌜ now links ≡ replicate side 0 ⌝ }
     requires { ⌜ Table (parts .variables) base (parts .givens + joinsOf (networkOf (now file) .switches)) 0 (now out) ⌝ }
     ensures { λ n. ⌜ WiredIn (now (file .entry)) parts base (now (out .entry)) (now (cells .exit)) (now (links .exit)) (now (out .exit)) n ⌝ }
 {

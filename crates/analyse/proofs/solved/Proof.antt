@@ -12,6 +12,7 @@ solved-spec =
     tie.close
     (tie.spec
     wire-sheet-requires
+    (λ c κs. search needs)
     (λ c κs. (search (plan-ready, needs), search (plan-level, needs)))
     (λ c. search needs)
     (λ c. search (plan-solved, needs)))

@@ -1,6 +1,6 @@
 -- `plan::eliminate_all` meets its contract: the invariant and its laws are those of `Planning`.
 use Prim.Native.Nat.{_-_}
-use Rattle.plan.specs.Matrix.{linksIn}
+use Rattle.rows.specs.Table.{linksIn}
 use Rattle.plan.specs.Planned.{Planning, planning-none, planning-some, planning-more, planned}
 use borrow.Author.Needs.{needs}
 use Rattle.plan.proofs.eliminate_all.Statement.{statement}
@@ -18,8 +18,10 @@ eliminate-all-spec =
     (tie.spec
     Inv-loop
     μ-loop
+    (λ c κs. search needs)
     (λ c. search (planning-none, needs))
-    (λ c κs. (search needs, search needs, search (planning-some, needs)))
+    (λ c κs. search (planning-some, needs))
+    (λ c κs. search needs)
     (λ c. search needs)
     (λ c. search needs)
     (λ c. search needs)

@@ -7,10 +7,10 @@ use Rattle.plan.proofs.pivot_work.Statement.{statement}
 use Rattle.plan.proofs.pivot_work.Tie as tie
 
 abbrev Inv-loop : tie.InvT-loop
-Inv-loop links rest n p work₀ v₀ work v = Summing (neighbourAsked links rest n p) neighbourMost n v work
+Inv-loop links near n work₀ v₀ work v = Summing (neighbourAsked links near) neighbourMost n v work
 
 abbrev μ-loop : tie.MeasureT-loop
-μ-loop links rest n p work₀ v₀ work v = n - v
+μ-loop links near n work₀ v₀ work v = n - v
 
 pub pivot-work-spec : {M : Type 1} → statement M
 pivot-work-spec =

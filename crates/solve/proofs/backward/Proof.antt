@@ -7,10 +7,10 @@ use Rattle.solve.proofs.backward.Statement.{statement}
 use Rattle.solve.proofs.backward.Tie as tie
 
 abbrev Inv-loop : tie.InvT-loop
-Inv-loop cells₀ out₀ base p count links rest n pivot made₀ u₀ cells out made u = Looping p base (backTurn links rest pivot) n cells₀ out₀ count u cells out made
+Inv-loop cells₀ out₀ base p count near n pivot made₀ u₀ cells out made u = Looping p base (backTurn near pivot) n cells₀ out₀ count u cells out made
 
 abbrev μ-loop : tie.MeasureT-loop
-μ-loop cells₀ out₀ base p count links rest n pivot made₀ u₀ cells out made u = n - u
+μ-loop cells₀ out₀ base p count near n pivot made₀ u₀ cells out made u = n - u
 
 pub backward-spec : {M : Type 1} → statement M
 backward-spec =

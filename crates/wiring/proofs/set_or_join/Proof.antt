@@ -14,11 +14,11 @@ set-or-join-spec =
     (tie.spec
     (λ c. search needs)
     (λ c. search needs)
-    (λ c. search needs)
     (λ c κs. search needs)
-    (λ c. search (label-set, needs))
     (λ c κs. search needs)
     make-requires
     (λ c κs. search needs)
     (λ c. search needs)
-    (λ c. search (label-joined, needs)))
+    (λ c. search (label-joined, needs))
+    (λ c κs. search needs)
+    (λ c. search (label-set, needs)))

@@ -1,8 +1,8 @@
--- `plan::connect` meets its contract: at each return, the law of that way out.
-use Rattle.plan.specs.Wire.{connects-loop, connects-first, connects-later}
+-- `rows::connect` meets its contract: at each return, the law of that way out.
 use borrow.Author.Needs.{needs}
-use Rattle.plan.proofs.connect.Statement.{statement}
-use Rattle.plan.proofs.connect.Tie as tie
+use Rattle.rows.specs.Connect.{connects-loop, connects-first, connects-later}
+use Rattle.rows.proofs.connect.Statement.{statement}
+use Rattle.rows.proofs.connect.Tie as tie
 
 pub connect-spec : {M : Type 1} → statement M
 connect-spec =
@@ -13,11 +13,15 @@ connect-spec =
     (λ c. search needs)
     (λ c. search needs)
     (λ c. search needs)
+    (λ c κs. search needs)
+    (λ c. search needs)
+    (λ c. search needs)
+    (λ c κs. search needs)
     (λ c. search needs)
     (λ c. search needs)
     (λ c. search needs)
     (λ c. search needs)
-    (λ c. search needs)
+    (λ c κs. search needs)
     (λ c. search needs)
     (λ c. search needs)
     (λ c. search (connects-later, needs))
