@@ -19,6 +19,7 @@ use network::SIDE;
 use network::Sections;
 use plan::Plan;
 use reader::Checked;
+use records::BUCKETS;
 use sheet::CELLS;
 
 // Wires an accepted file and carries its plan out, the records in place from `base` on; gives their number.
@@ -37,12 +38,14 @@ fn solved(
     ensures { λ r. ⌜ SolvedIn (now (file .entry)) parts found base (now (out .entry)) (now (cells .exit)) (now (out .exit)) r ⌝ }
 {
     let mut links = [0; SIDE];
-    let wired = wiring::wire_sheet(file, parts, cells, &mut links, out, base);
+    let mut newest = [0; BUCKETS];
+    let wired = wiring::wire_sheet(file, parts, cells, &mut links, out, &mut newest, base);
     let rest = rows::all(parts.vertices);
     let order = found.order;
     solve::eliminate_from(
         cells,
         out,
+        &mut newest,
         base,
         parts.variables,
         wired,

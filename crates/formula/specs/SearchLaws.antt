@@ -16,7 +16,7 @@ use Rattle.formula.specs.MakeLaws.{Earlier, Orderly}
 use Rattle.formula.specs.Search.{Distinct, larger}
 
 -- Records that are the same are equal.
-same-is : (r x : Record) → same r x ≡ true → r ≡ x
+pub same-is : (r x : Record) → same r x ≡ true → r ≡ x
 same-is r x t =
     let q = both-true (eqb (r .kind) (x .kind) && eqb (r .first) (x .first)) (eqb (r .second) (x .second)) t in
     let k = both-true (eqb (r .kind) (x .kind)) (eqb (r .first) (x .first)) (q .0) in

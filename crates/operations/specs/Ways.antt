@@ -75,8 +75,8 @@ pub product-room : (p base n : ℕ) (s : List ℕ) (joined : Bool) → Table p b
 product-room p base n s joined table = table-room p base (cond joined 2 1) (byChoice (λ (k : ℕ). 1 ≤ k) joined 2 1 (λ t. omega arith) (λ t. omega arith)) table
 
 -- then, whatever its kind, for its sum,
-module _ (p base kind a b n : ℕ) (s t : List ℕ) (m : Made) (joined : Bool) (e : joined ≡ true) (table : Table p base (cond joined 2 1) n s)
-    (ha : a < formula p n) (hb : b < formula p n) (made : Makes (make p kind a b) base n s t m) where
+module _ (p base kind a b n : ℕ) (s t : List ℕ) (m : Made) (made : Makes (make p kind a b) base n s t m) (joined : Bool) (e : joined ≡ true)
+    (table : Table p base (cond joined 2 1) n s) (ha : a < formula p n) (hb : b < formula p n) where
   grown : Grown p base 1 s n t (m .count)
   grown = grown-made p base kind a b (table .orderly) ha hb t m made
 
@@ -92,13 +92,13 @@ module _ (p base kind a b n : ℕ) (s t : List ℕ) (m : Made) (joined : Bool) (
 
 -- An operation has been carried out.
 pub asked-ran : (p base : ℕ) (x : Ask) (cells s t : List ℕ) (n : ℕ) (m : Made) → Ready p base (cond (x .joined) 2 1) cells s n
-    → Inside (x .to) → Inside (x .a) → Inside (x .b)
+    → Inside (x .to) × Inside (x .a) × Inside (x .b)
     → (was a b : ℕ) → was ≡ cellsIn cells (x .to) → a ≡ cellsIn cells (x .a) → b ≡ cellsIn cells (x .b)
     → Makes (product p (x .joined) was a b) base n s t m
     → (written : List ℕ) → written ≡ set cells (placeOf (x .to)) (m .reference .number)
     → Ran p base (x ∷ []) cells s n written t (m .count)
 unfolding perform work asked sheetIn
-asked-ran p base x cells s t n m r it ia ib was a b ew ea eb made written e =
+asked-ran p base x cells s t n m r (it, ia, ib) was a b ew ea eb made written e =
     let l = length-records s base n in
     let below : (c : Cell) → Inside c → cellsIn cells c < formula p (length (recordsIn s base n)) =
     (λ c i. omega (arith, l, r .held .below (placeOf c), cell-at cells c i)) in

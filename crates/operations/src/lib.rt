@@ -6,8 +6,10 @@ ghost use Prim.Native.Nat.{_<_};
 ghost use lib.ListN.{set};
 ghost use Rattle.form.specs.References.{formula};
 ghost use Rattle.network.specs.Network.{side};
+ghost use Rattle.records.specs.Bytes.{recordsIn};
 ghost use Rattle.records.specs.Gives.{Makes};
 ghost use Rattle.records.specs.Grown.{Table};
+ghost use Rattle.records.specs.Newest.{newestOf};
 ghost use Rattle.sheet.specs.Cells.{cellsIn, placeOf, Inside};
 ghost use Rattle.sheet.specs.Perform.{product};
 ghost use Rattle.sheet.specs.declared.Cell.the-variants.{Label};
@@ -15,6 +17,7 @@ ghost use Rattle.operations.specs.Runs.{Ready, Ran};
 ghost use Rattle.operations.specs.Ways.{Placed};
 use form::Reference;
 use network::SIDE;
+use records::BUCKETS;
 use records::Made;
 use sheet::Ask;
 use sheet::CELLS;
@@ -60,6 +63,7 @@ pub fn put(cells: &mut [u16; CELLS], c: Cell, r: Reference)
 // a and b or, where it is joined, was or (a and b). The product is made before its sum.
 fn product(
     out: &mut [u8],
+    newest: &mut [u16; BUCKETS],
     base: usize,
     p: usize,
     count: usize,
@@ -69,12 +73,14 @@ fn product(
     b: Reference,
 ) -> Made
     requires { ⌜ Table p base (cond joined 2 1) count (now out) ⌝ }
+    requires { ⌜ now newest ≡ newestOf (recordsIn (now out) base count) ⌝ }
     requires { ⌜ (was .number < formula p count) × (a .number < formula p count) × (b .number < formula p count) ⌝ }
     ensures { λ r. ⌜ Makes (product p joined (was .number) (a .number) (b .number)) base count (now (out .entry)) (now (out .exit)) r ⌝ }
+    ensures { λ r. ⌜ now (newest .exit) ≡ newestOf (recordsIn (now (out .exit)) base (r .count)) ⌝ }
 {
-    let t = records::make(out, base, p, count, records::AND, a, b);
+    let t = records::make(out, newest, base, p, count, records::AND, a, b);
     if joined {
-        return records::make(out, base, p, t.count, records::OR, was, t.reference);
+        return records::make(out, newest, base, p, t.count, records::OR, was, t.reference);
     }
     t
 }
@@ -83,14 +89,17 @@ fn product(
 pub fn ask(
     cells: &mut [u16; CELLS],
     out: &mut [u8],
+    newest: &mut [u16; BUCKETS],
     base: usize,
     p: usize,
     count: usize,
     x: Ask,
 ) -> usize
     requires { ⌜ Ready p base (cond (x .joined) 2 1) (now cells) (now out) count ⌝ }
+    requires { ⌜ now newest ≡ newestOf (recordsIn (now out) base count) ⌝ }
     requires { ⌜ Inside (x .to) × Inside (x .a) × Inside (x .b) ⌝ }
     ensures { λ r. ⌜ Ran p base (x ∷ []) (now (cells .entry)) (now (out .entry)) count (now (cells .exit)) (now (out .exit)) r ⌝ }
+    ensures { λ r. ⌜ now (newest .exit) ≡ newestOf (recordsIn (now (out .exit)) base r) ⌝ }
 {
     let to = x.to;
     let first = x.a;
@@ -98,7 +107,7 @@ pub fn ask(
     let was = held(cells, to);
     let a = held(cells, first);
     let b = held(cells, second);
-    let m = product(out, base, p, count, x.joined, was, a, b);
+    let m = product(out, newest, base, p, count, x.joined, was, a, b);
     put(cells, to, m.reference);
     m.count
 }

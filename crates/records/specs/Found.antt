@@ -16,9 +16,10 @@ use Rattle.network.specs.Network.{givenAt}
 use Rattle.records.specs.Bytes.{recordsIn}
 use Rattle.records.specs.Laws.{length-records, record-at}
 use Rattle.records.specs.Gives.{Room}
+use Rattle.records.specs.Newest.{bucketOf, newestOf, newest-most, newest-after}
 use Rattle.formula.specs.Make.{same, indexOf, named, none}
 use Rattle.formula.specs.Search.{larger, placeAfter}
-use Rattle.formula.specs.SearchLaws.{distinct, found-at, found-none, none-before}
+use Rattle.formula.specs.SearchLaws.{same-is, distinct, found-at, found-none, none-before}
 
 -- Two records are compared field by field, the second argument first.
 module _ (x y : Record) where
@@ -47,8 +48,19 @@ pub record Searched (s : List ℕ) (base n : ℕ) (x : Record) (k : ℕ) : Type 
   pub passed : (j : ℕ) → k ≤ j → j < n → same (getD (recordsIn s base n) j none) x ≡ false
 
 module _ (s : List ℕ) (base n : ℕ) (x : Record) where
-  pub searched-none : Searched s base n x n
-  searched-none = record { within = omega arith; passed = λ j a b. absurd (omega arith) }
+  -- It begins at the bucket's newest: what is passed over is in other buckets.
+  pub searched-none : (newest : List ℕ) → newest ≡ newestOf (recordsIn s base n) → (h k : ℕ) → h ≡ bucketOf x → k ≡ getD newest h 0
+      → Searched s base n x k
+  searched-none newest e h k is at =
+      let rs = recordsIn s base n in
+      let l = length-records s base n in
+      let start : k ≡ getD (newestOf rs) (bucketOf x) 0 = rw (← is, ← e) at in
+      record {
+        within = omega (arith, newest-most rs (bucketOf x));
+        passed = λ j a b. byTest (same (getD rs j none) x)
+            (λ t. absurd (newest-after rs (bucketOf x) j (omega arith) (omega arith) (ap bucketOf (same-is (getD rs j none) x t))))
+            (λ t. t);
+      }
 
   module _ (k : ℕ) (inv : Searched s base n x k) where
     pub searched-all : (p least : ℕ) → Room p base n s → least ≡ placeAfter p x → k ≤ least → n ≡ indexOf (recordsIn s base n) x

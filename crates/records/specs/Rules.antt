@@ -6,7 +6,7 @@ use native.Mathlib.Omega.{arith}
 use mathlib.Core.Bool.{Bool, true, false}
 use borrow.Author.Tests.{eq-eqb, ne-eqb, lt-ltb, le-ltb, le-leb, lt-leb}
 use lib.Dec.{eqb}
-use lib.ListN.{length}
+use lib.ListN.{length, set}
 use Rattle.form.specs.References.{formula}
 use Rattle.form.specs.declared.Record.{Record}
 use Rattle.records.specs.declared.Made.{Made}
@@ -14,6 +14,7 @@ use Rattle.records.specs.Bytes.{recordsIn, putRecord}
 use Rattle.records.specs.Laws.{length-records, records-more, put-none, put-one}
 use Rattle.formula.specs.Make.{old, indexOf, named, notOf, andOr, holds, absorbed, neutral, deciding, enter, negate, relate, combine, make}
 use Rattle.records.specs.Gives.{Gives, Makes}
+use Rattle.records.specs.Newest.{bucketOf, newestOf, newest-more}
 
 -- Whether a record holds a,
 module _ (a : ℕ) (x : Record) (t : Bool) (is : t ≡ andOr x) where
@@ -39,6 +40,13 @@ module _ (kind a b : ℕ) (x : Record) where
 
   pub and-and : (kind ≡ 2 → ⊥) → (x .kind ≡ 2 → ⊥) → b ≡ absorbed kind a b x
   and-and k o = rw (ne-eqb kind 2 k, ne-eqb (x .kind) 2 o)
+
+-- A record that was appended is its bucket's newest.
+pub stored-noted : (base n : ℕ) (s t : List ℕ) (x : Record) → base + 6 * n + 6 ≤ length s → t ≡ putRecord s (base + 6 * n) x
+    → (newest : List ℕ) → newest ≡ newestOf (recordsIn s base n) → (h : ℕ) → h ≡ bucketOf x
+    → set newest h (n + 1) ≡ newestOf (recordsIn t base (n + 1))
+stored-noted base n s t x room b newest e h is =
+    rw (b, records-more s base n x room, newest-more (recordsIn s base n) x, length-records s base n, e, is)
 
 module _ (base n : ℕ) (s : List ℕ) (m : Made) where
   -- Nothing is added,

@@ -8,6 +8,7 @@ ghost use Rattle.formula.specs.Search.{larger, placeAfter};
 ghost use Rattle.network.specs.Network.{givenAt};
 ghost use Rattle.records.specs.Bytes.{putRecord, recordsIn};
 ghost use Rattle.records.specs.Gives.{Room, Makes};
+ghost use Rattle.records.specs.Newest.{buckets, bucketOf, newestOf};
 use form::Record;
 use form::Reference;
 
@@ -22,6 +23,9 @@ pub const AND: u16 = 1;
 pub const OR: u16 = 2;
 
 pub const NOT: u16 = 3;
+
+// Buckets of records: of each, one more than the place of its newest record is kept, and 0 where it has none.
+pub const BUCKETS: usize = 4096;
 
 // The record at a place.
 pub fn read_record(s: &[u8], at: usize) -> Record
@@ -79,13 +83,28 @@ fn place_after(p: usize, x: Record) -> usize
     i - p - 1
 }
 
-// The index of the record that is the same as x, or the count where none is: from the newest on, and no further than its arguments allow.
-fn find(s: &[u8], base: usize, p: usize, count: usize, x: Record) -> usize
+// The bucket of a record.
+fn bucket(x: Record) -> usize
+    ensures { λ r. ⌜ (r ≡ bucketOf x) × (r < buckets) ⌝ }
+{
+    (x.kind as usize + 3 * (x.first as usize) + 67 * (x.second as usize)) % BUCKETS
+}
+
+// A number of 16 bits as a longer one.
+fn wide(x: u16) -> usize
+    ensures { λ r. ⌜ r ≡ x ⌝ }
+{
+    x as usize
+}
+
+// The index of the record that is the same as x, or the count where none is: from its bucket's newest on, and no further than its arguments allow.
+fn find(s: &[u8], newest: &[u16; BUCKETS], base: usize, p: usize, count: usize, x: Record) -> usize
     requires { ⌜ Room p base count (now s) ⌝ }
+    requires { ⌜ now newest ≡ newestOf (recordsIn (now s) base count) ⌝ }
     ensures { λ r. ⌜ r ≡ indexOf (recordsIn (now (s .entry)) base count) x ⌝ }
 {
     let least = place_after(p, x);
-    let mut k = count;
+    let mut k = wide(newest[bucket(x)]);
     while k > least {
         k -= 1;
         if same_record(read_record(s, base + 6 * k), x) {
@@ -113,11 +132,20 @@ fn record_of(s: &[u8], base: usize, p: usize, count: usize, r: Reference) -> Rec
 }
 
 // Rules 6 and 7: the reference of a record, which is appended where it is not there yet.
-fn stored(s: &mut [u8], base: usize, p: usize, count: usize, x: Record) -> Made
+fn stored(
+    s: &mut [u8],
+    newest: &mut [u16; BUCKETS],
+    base: usize,
+    p: usize,
+    count: usize,
+    x: Record,
+) -> Made
     requires { ⌜ Room p base count (now s) ⌝ }
+    requires { ⌜ now newest ≡ newestOf (recordsIn (now s) base count) ⌝ }
     ensures { λ r. ⌜ Makes (enter p x) base count (now (s .entry)) (now (s .exit)) r ⌝ }
+    ensures { λ r. ⌜ now (newest .exit) ≡ newestOf (recordsIn (now (s .exit)) base (r .count)) ⌝ }
 {
-    let k = find(s, base, p, count, x);
+    let k = find(s, newest, base, p, count, x);
     if k < count {
         return Made {
             reference: Reference::of(p + k),
@@ -125,6 +153,8 @@ fn stored(s: &mut [u8], base: usize, p: usize, count: usize, x: Record) -> Made
         };
     }
     put_record(s, base + 6 * count, x);
+    let h = bucket(x);
+    newest[h] = (count + 1) as u16;
     Made {
         reference: Reference::of(p + count),
         count: count + 1,
@@ -132,10 +162,19 @@ fn stored(s: &mut [u8], base: usize, p: usize, count: usize, x: Record) -> Made
 }
 
 // Rule 5: a not record.
-fn negated(s: &mut [u8], base: usize, p: usize, count: usize, a: Reference) -> Made
+fn negated(
+    s: &mut [u8],
+    newest: &mut [u16; BUCKETS],
+    base: usize,
+    p: usize,
+    count: usize,
+    a: Reference,
+) -> Made
     requires { ⌜ Room p base count (now s) ⌝ }
+    requires { ⌜ now newest ≡ newestOf (recordsIn (now s) base count) ⌝ }
     requires { ⌜ a .number < formula p count ⌝ }
     ensures { λ r. ⌜ Makes (negate p (a .number)) base count (now (s .entry)) (now (s .exit)) r ⌝ }
+    ensures { λ r. ⌜ now (newest .exit) ≡ newestOf (recordsIn (now (s .exit)) base (r .count)) ⌝ }
 {
     if a.number == Reference::FALSE.number {
         return Made {
@@ -158,6 +197,7 @@ fn negated(s: &mut [u8], base: usize, p: usize, count: usize, a: Reference) -> M
     }
     stored(
         s,
+        newest,
         base,
         p,
         count,
@@ -241,6 +281,7 @@ fn absorbed(kind: u16, a: Reference, b: Reference, x: Record) -> Reference
 // Rule 4, absorption, and rules 6 and 7: an and or an or of two arguments that differ, the smaller first.
 fn related(
     s: &mut [u8],
+    newest: &mut [u16; BUCKETS],
     base: usize,
     p: usize,
     count: usize,
@@ -249,8 +290,10 @@ fn related(
     b: Reference,
 ) -> Made
     requires { ⌜ Room p base count (now s) ⌝ }
+    requires { ⌜ now newest ≡ newestOf (recordsIn (now s) base count) ⌝ }
     requires { ⌜ b .number < formula p count ⌝ }
     ensures { λ r. ⌜ Makes (relate p kind (a .number) (b .number)) base count (now (s .entry)) (now (s .exit)) r ⌝ }
+    ensures { λ r. ⌜ now (newest .exit) ≡ newestOf (recordsIn (now (s .exit)) base (r .count)) ⌝ }
 {
     let x = record_of(s, base, p, count, b);
     if is_not_of(a, x) {
@@ -267,6 +310,7 @@ fn related(
     }
     stored(
         s,
+        newest,
         base,
         p,
         count,
@@ -281,6 +325,7 @@ fn related(
 // Rules 2 and 3: an and or an or, the smaller argument first.
 fn combined(
     s: &mut [u8],
+    newest: &mut [u16; BUCKETS],
     base: usize,
     p: usize,
     count: usize,
@@ -289,8 +334,10 @@ fn combined(
     b: Reference,
 ) -> Made
     requires { ⌜ Room p base count (now s) ⌝ }
+    requires { ⌜ now newest ≡ newestOf (recordsIn (now s) base count) ⌝ }
     requires { ⌜ b .number < formula p count ⌝ }
     ensures { λ r. ⌜ Makes (combine p kind (a .number) (b .number)) base count (now (s .entry)) (now (s .exit)) r ⌝ }
+    ensures { λ r. ⌜ now (newest .exit) ≡ newestOf (recordsIn (now (s .exit)) base (r .count)) ⌝ }
 {
     if a.number == neutral(kind).number {
         return Made {
@@ -310,12 +357,13 @@ fn combined(
             count,
         };
     }
-    related(s, base, p, count, kind, a, b)
+    related(s, newest, base, p, count, kind, a, b)
 }
 
 // The reference of an operation on references, by the rules 1 to 7.
 pub fn make(
     s: &mut [u8],
+    newest: &mut [u16; BUCKETS],
     base: usize,
     p: usize,
     count: usize,
@@ -324,15 +372,17 @@ pub fn make(
     b: Reference,
 ) -> Made
     requires { ⌜ Room p base count (now s) ⌝ }
+    requires { ⌜ now newest ≡ newestOf (recordsIn (now s) base count) ⌝ }
     requires { ⌜ a .number < formula p count ⌝ }
     requires { ⌜ b .number < formula p count ⌝ }
     ensures { λ r. ⌜ Makes (make p kind (a .number) (b .number)) base count (now (s .entry)) (now (s .exit)) r ⌝ }
+    ensures { λ r. ⌜ now (newest .exit) ≡ newestOf (recordsIn (now (s .exit)) base (r .count)) ⌝ }
 {
     if kind == NOT {
-        return negated(s, base, p, count, a);
+        return negated(s, newest, base, p, count, a);
     }
     if a.number <= b.number {
-        return combined(s, base, p, count, kind, a, b);
+        return combined(s, newest, base, p, count, kind, a, b);
     }
-    combined(s, base, p, count, kind, b, a)
+    combined(s, newest, base, p, count, kind, b, a)
 }

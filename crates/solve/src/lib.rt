@@ -4,11 +4,14 @@ ghost use Prim.Native.Nat.{_<_, _≤_};
 ghost use lib.ListN.{length};
 ghost use Rattle.network.specs.Network.{side};
 ghost use Rattle.operations.specs.Runs.{Ready, Ran};
+ghost use Rattle.records.specs.Bytes.{recordsIn};
+ghost use Rattle.records.specs.Newest.{newestOf};
 ghost use Rattle.rows.specs.Gone.{eliminated};
 ghost use Rattle.sheet.specs.Asks.{work};
 ghost use Rattle.solve.specs.Turns.{labelTurn, labelsTo, neighbourTurn, forwardIn, backTurn, backwardIn, pivotsFrom, planFrom};
 ghost use Rattle.solve.specs.Levels.{linksAfter, Level};
 use network::SIDE;
+use records::BUCKETS;
 use sheet::Ask;
 use sheet::CELLS;
 use sheet::Cell;
@@ -17,6 +20,7 @@ use sheet::Cell;
 fn label_turn(
     cells: &mut [u16; CELLS],
     out: &mut [u8],
+    newest: &mut [u16; BUCKETS],
     base: usize,
     p: usize,
     count: usize,
@@ -28,7 +32,9 @@ fn label_turn(
 ) -> usize
     requires { ⌜ Ready p base (work (labelTurn (now links) near pivot v u)) (now cells) (now out) count ⌝ }
     requires { ⌜ (pivot < side) × (v < side) × (u < side) ⌝ }
+    requires { ⌜ now newest ≡ newestOf (recordsIn (now out) base count) ⌝ }
     ensures { λ r. ⌜ Ran p base (labelTurn (now (links .entry)) near pivot v u) (now (cells .entry)) (now (out .entry)) count (now (cells .exit)) (now (out .exit)) r ⌝ }
+    ensures { λ r. ⌜ now (newest .exit) ≡ newestOf (recordsIn (now (out .exit)) base r) ⌝ }
 {
     if rows::has(near, u) {
         if v == u {
@@ -40,7 +46,7 @@ fn label_turn(
             a: Cell::Label(u, pivot),
             b: Cell::Label(pivot, v),
         };
-        return operations::ask(cells, out, base, p, count, x);
+        return operations::ask(cells, out, newest, base, p, count, x);
     }
     count
 }
@@ -49,6 +55,7 @@ fn label_turn(
 fn pass_labels(
     cells: &mut [u16; CELLS],
     out: &mut [u8],
+    newest: &mut [u16; BUCKETS],
     base: usize,
     p: usize,
     count: usize,
@@ -60,12 +67,14 @@ fn pass_labels(
 ) -> usize
     requires { ⌜ Ready p base (work (labelsTo (now links) near n pivot v)) (now cells) (now out) count ⌝ }
     requires { ⌜ (n ≤ side) × (pivot < side) × (v < side) ⌝ }
+    requires { ⌜ now newest ≡ newestOf (recordsIn (now out) base count) ⌝ }
     ensures { λ r. ⌜ Ran p base (labelsTo (now (links .entry)) near n pivot v) (now (cells .entry)) (now (out .entry)) count (now (cells .exit)) (now (out .exit)) r ⌝ }
+    ensures { λ r. ⌜ now (newest .exit) ≡ newestOf (recordsIn (now (out .exit)) base r) ⌝ }
 {
     let mut made = count;
     let mut u = 0;
     while u < n {
-        made = label_turn(cells, out, base, p, made, links, near, pivot, v, u);
+        made = label_turn(cells, out, newest, base, p, made, links, near, pivot, v, u);
         u += 1;
     }
     made
@@ -75,6 +84,7 @@ fn pass_labels(
 fn neighbour_turn(
     cells: &mut [u16; CELLS],
     out: &mut [u8],
+    newest: &mut [u16; BUCKETS],
     base: usize,
     p: usize,
     count: usize,
@@ -86,7 +96,9 @@ fn neighbour_turn(
 ) -> usize
     requires { ⌜ Ready p base (work (neighbourTurn (now links) near n pivot v)) (now cells) (now out) count ⌝ }
     requires { ⌜ (n ≤ side) × (pivot < side) × (v < side) ⌝ }
+    requires { ⌜ now newest ≡ newestOf (recordsIn (now out) base count) ⌝ }
     ensures { λ r. ⌜ Ran p base (neighbourTurn (now (links .entry)) near n pivot v) (now (cells .entry)) (now (out .entry)) count (now (cells .exit)) (now (out .exit)) r ⌝ }
+    ensures { λ r. ⌜ now (newest .exit) ≡ newestOf (recordsIn (now (out .exit)) base r) ⌝ }
 {
     if rows::has(near, v) {
         let x = Ask {
@@ -95,8 +107,8 @@ fn neighbour_turn(
             a: Cell::Start(pivot),
             b: Cell::Label(pivot, v),
         };
-        let made = operations::ask(cells, out, base, p, count, x);
-        return pass_labels(cells, out, base, p, made, links, near, n, pivot, v);
+        let made = operations::ask(cells, out, newest, base, p, count, x);
+        return pass_labels(cells, out, newest, base, p, made, links, near, n, pivot, v);
     }
     count
 }
@@ -105,6 +117,7 @@ fn neighbour_turn(
 fn forward(
     cells: &mut [u16; CELLS],
     out: &mut [u8],
+    newest: &mut [u16; BUCKETS],
     base: usize,
     p: usize,
     count: usize,
@@ -115,12 +128,14 @@ fn forward(
 ) -> usize
     requires { ⌜ Ready p base (work (forwardIn (now links) near n pivot)) (now cells) (now out) count ⌝ }
     requires { ⌜ (n ≤ side) × (pivot < side) ⌝ }
+    requires { ⌜ now newest ≡ newestOf (recordsIn (now out) base count) ⌝ }
     ensures { λ r. ⌜ Ran p base (forwardIn (now (links .entry)) near n pivot) (now (cells .entry)) (now (out .entry)) count (now (cells .exit)) (now (out .exit)) r ⌝ }
+    ensures { λ r. ⌜ now (newest .exit) ≡ newestOf (recordsIn (now (out .exit)) base r) ⌝ }
 {
     let mut made = count;
     let mut v = 0;
     while v < n {
-        made = neighbour_turn(cells, out, base, p, made, links, near, n, pivot, v);
+        made = neighbour_turn(cells, out, newest, base, p, made, links, near, n, pivot, v);
         v += 1;
     }
     made
@@ -130,6 +145,7 @@ fn forward(
 fn back_turn(
     cells: &mut [u16; CELLS],
     out: &mut [u8],
+    newest: &mut [u16; BUCKETS],
     base: usize,
     p: usize,
     count: usize,
@@ -139,7 +155,9 @@ fn back_turn(
 ) -> usize
     requires { ⌜ Ready p base (work (backTurn near pivot u)) (now cells) (now out) count ⌝ }
     requires { ⌜ (pivot < side) × (u < side) ⌝ }
+    requires { ⌜ now newest ≡ newestOf (recordsIn (now out) base count) ⌝ }
     ensures { λ r. ⌜ Ran p base (backTurn near pivot u) (now (cells .entry)) (now (out .entry)) count (now (cells .exit)) (now (out .exit)) r ⌝ }
+    ensures { λ r. ⌜ now (newest .exit) ≡ newestOf (recordsIn (now (out .exit)) base r) ⌝ }
 {
     if rows::has(near, u) {
         let x = Ask {
@@ -148,7 +166,7 @@ fn back_turn(
             a: Cell::Start(u),
             b: Cell::Label(u, pivot),
         };
-        return operations::ask(cells, out, base, p, count, x);
+        return operations::ask(cells, out, newest, base, p, count, x);
     }
     count
 }
@@ -157,6 +175,7 @@ fn back_turn(
 fn backward(
     cells: &mut [u16; CELLS],
     out: &mut [u8],
+    newest: &mut [u16; BUCKETS],
     base: usize,
     p: usize,
     count: usize,
@@ -166,12 +185,14 @@ fn backward(
 ) -> usize
     requires { ⌜ Ready p base (work (backwardIn near n pivot)) (now cells) (now out) count ⌝ }
     requires { ⌜ (n ≤ side) × (pivot < side) ⌝ }
+    requires { ⌜ now newest ≡ newestOf (recordsIn (now out) base count) ⌝ }
     ensures { λ r. ⌜ Ran p base (backwardIn near n pivot) (now (cells .entry)) (now (out .entry)) count (now (cells .exit)) (now (out .exit)) r ⌝ }
+    ensures { λ r. ⌜ now (newest .exit) ≡ newestOf (recordsIn (now (out .exit)) base r) ⌝ }
 {
     let mut made = count;
     let mut u = 0;
     while u < n {
-        made = back_turn(cells, out, base, p, made, near, pivot, u);
+        made = back_turn(cells, out, newest, base, p, made, near, pivot, u);
         u += 1;
     }
     made
@@ -181,6 +202,7 @@ fn backward(
 fn pass(
     cells: &mut [u16; CELLS],
     out: &mut [u8],
+    newest: &mut [u16; BUCKETS],
     base: usize,
     p: usize,
     count: usize,
@@ -191,10 +213,12 @@ fn pass(
 ) -> usize
     requires { ⌜ Ready p base (work (forwardIn (now links) near n pivot)) (now cells) (now out) count ⌝ }
     requires { ⌜ (n ≤ side) × (pivot < side) × (length (now links) ≡ side) ⌝ }
+    requires { ⌜ now newest ≡ newestOf (recordsIn (now out) base count) ⌝ }
     ensures { λ r. ⌜ Ran p base (forwardIn (now (links .entry)) near n pivot) (now (cells .entry)) (now (out .entry)) count (now (cells .exit)) (now (out .exit)) r ⌝ }
     ensures { λ r. ⌜ now (links .exit) ≡ eliminated pivot (now (links .entry)) ⌝ }
+    ensures { λ r. ⌜ now (newest .exit) ≡ newestOf (recordsIn (now (out .exit)) base r) ⌝ }
 {
-    let made = forward(cells, out, base, p, count, links, near, n, pivot);
+    let made = forward(cells, out, newest, base, p, count, links, near, n, pivot);
     rows::eliminate(links, pivot);
     made
 }
@@ -203,6 +227,7 @@ fn pass(
 pub fn eliminate_from(
     cells: &mut [u16; CELLS],
     out: &mut [u8],
+    newest: &mut [u16; BUCKETS],
     base: usize,
     p: usize,
     count: usize,
@@ -214,16 +239,30 @@ pub fn eliminate_from(
 ) -> usize
     requires { ⌜ Ready p base (work (planFrom (now links) rest (now order) n k)) (now cells) (now out) count ⌝ }
     requires { ⌜ Level (now links) (now order) n k ⌝ }
+    requires { ⌜ now newest ≡ newestOf (recordsIn (now out) base count) ⌝ }
     ensures { λ r. ⌜ Ran p base (planFrom (now (links .entry)) rest (now (order .entry)) n k) (now (cells .entry)) (now (out .entry)) count (now (cells .exit)) (now (out .exit)) r ⌝ }
     ensures { λ r. ⌜ now (links .exit) ≡ linksAfter (pivotsFrom (now (order .entry)) n k) (now (links .entry)) ⌝ }
+    ensures { λ r. ⌜ now (newest .exit) ≡ newestOf (recordsIn (now (out .exit)) base r) ⌝ }
 {
     if k == n {
         return count;
     }
     let pivot = order[k];
     let near = rows::near(links, rest, pivot);
-    let made = pass(cells, out, base, p, count, links, near, n, pivot);
+    let made = pass(cells, out, newest, base, p, count, links, near, n, pivot);
     let left = rows::excluding(rest, pivot);
-    let answered = eliminate_from(cells, out, base, p, made, links, left, order, n, k + 1);
-    backward(cells, out, base, p, answered, near, n, pivot)
+    let answered = eliminate_from(
+        cells,
+        out,
+        newest,
+        base,
+        p,
+        made,
+        links,
+        left,
+        order,
+        n,
+        k + 1,
+    );
+    backward(cells, out, newest, base, p, answered, near, n, pivot)
 }

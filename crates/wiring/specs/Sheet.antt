@@ -27,11 +27,11 @@ pub record WiredIn (file : List ℕ) (parts : Sections) (base : ℕ) (out cells�
   pub graph : linksIn links′ ≡ linksOf (networkOf file .switches)
   pub long : length links′ ≡ side
 
-module _ (file : List ℕ) (parts : Sections) (sound : Sound edition file parts) (base : ℕ) (out : List ℕ)
-    (table : Table (parts .variables) base (parts .givens + joinsOf (networkOf file .switches)) 0 out) where
+module _ (file : List ℕ) (parts : Sections) (sound : Sound edition file parts) (base : ℕ) (out : List ℕ) where
   -- There is room for the given formulas.
-  pub givens-table : Table (parts .variables) base (parts .givens) 0 out
-  givens-table = table-less (parts .variables) base (parts .givens + joinsOf (networkOf file .switches)) (parts .givens) (omega arith) table
+  pub givens-table : Table (parts .variables) base (parts .givens + joinsOf (networkOf file .switches)) 0 out
+      → Table (parts .variables) base (parts .givens) 0 out
+  givens-table table = table-less (parts .variables) base (parts .givens + joinsOf (networkOf file .switches)) (parts .givens) (omega arith) table
 
   module _ (references o : List ℕ) (n : ℕ) (all : PassedIn file parts base out references o n) where
     passed-is : passedOf file parts ≡ passed (networkOf file)
@@ -49,8 +49,9 @@ module _ (file : List ℕ) (parts : Sections) (sound : Sound edition file parts)
 
     module _ (cells : List ℕ) (started : Started (parts .variables) references (networkOf file .starts) cells (parts .vertices)) where
       -- There is room for the joins.
-      pub joins-ready : Ready (parts .variables) base (joinsOf (networkOf file .switches)) cells o n
-      joins-ready =
+      pub joins-ready : Table (parts .variables) base (parts .givens + joinsOf (networkOf file .switches)) 0 out
+          → Ready (parts .variables) base (joinsOf (networkOf file .switches)) cells o n
+      joins-ready table =
           record {
             held = started-held file parts sound references cells n started passed-translates;
             table = table-after (parts .variables) base (parts .givens) (joinsOf (networkOf file .switches)) table (all .grown);

@@ -5,7 +5,9 @@ ghost use lib.ListN.{replicate};
 ghost use Rattle.form.specs.References.{formula};
 ghost use Rattle.network.specs.Layout.{Sound};
 ghost use Rattle.network.specs.Network.{edition, side, networkOf};
+ghost use Rattle.records.specs.Bytes.{recordsIn};
 ghost use Rattle.records.specs.Grown.{Table};
+ghost use Rattle.records.specs.Newest.{buckets, newestOf};
 ghost use Rattle.links.specs.Switches.{link, joinsAt, noLinks, linksOf, joinsOf};
 ghost use Rattle.sheet.specs.Cells.{cellCount};
 ghost use Rattle.operations.specs.Runs.{Ready, Runs};
@@ -20,6 +22,7 @@ use givens::GIVENS;
 use network::SIDE;
 use network::Sections;
 use network::Switch;
+use records::BUCKETS;
 use sheet::CELLS;
 use sheet::Cell;
 
@@ -27,6 +30,7 @@ use sheet::Cell;
 fn set_or_join(
     cells: &mut [u16; CELLS],
     out: &mut [u8],
+    newest: &mut [u16; BUCKETS],
     base: usize,
     p: usize,
     count: usize,
@@ -37,11 +41,13 @@ fn set_or_join(
 ) -> usize
     requires { ⌜ Ready p base (joinAt (linksIn (now links)) u v) (now cells) (now out) count ⌝ }
     requires { ⌜ (u < side) × (v < side) × (r .number < formula p count) ⌝ }
+    requires { ⌜ now newest ≡ newestOf (recordsIn (now out) base count) ⌝ }
     ensures { λ n. ⌜ Runs p base (setOrJoin p (linksIn (now (links .entry))) u v (r .number)) (joinAt (linksIn (now (links .entry))) u v) (now (cells .entry)) (now (out .entry)) count (now (cells .exit)) (now (out .exit)) n ⌝ }
+    ensures { λ n. ⌜ now (newest .exit) ≡ newestOf (recordsIn (now (out .exit)) base n) ⌝ }
 {
     if rows::has(links[u], v) {
         let old = operations::held(cells, Cell::Label(u, v));
-        let m = records::make(out, base, p, count, records::OR, old, r);
+        let m = records::make(out, newest, base, p, count, records::OR, old, r);
         operations::put(cells, Cell::Label(u, v), m.reference);
         return m.count;
     }
@@ -53,6 +59,7 @@ fn set_or_join(
 fn set_labels(
     cells: &mut [u16; CELLS],
     out: &mut [u8],
+    newest: &mut [u16; BUCKETS],
     base: usize,
     p: usize,
     count: usize,
@@ -60,7 +67,9 @@ fn set_labels(
     w: Switch,
 ) -> usize
     requires { ⌜ Labelling p base (linksIn (now links)) w (now cells) (now out) count ⌝ }
+    requires { ⌜ now newest ≡ newestOf (recordsIn (now out) base count) ⌝ }
     ensures { λ n. ⌜ Runs p base (labelled p (linksIn (now (links .entry))) w) (joinsAt w (linksIn (now (links .entry)))) (now (cells .entry)) (now (out .entry)) count (now (cells .exit)) (now (out .exit)) n ⌝ }
+    ensures { λ n. ⌜ now (newest .exit) ≡ newestOf (recordsIn (now (out .exit)) base n) ⌝ }
 {
     if w.first == w.second {
         return count;
@@ -69,8 +78,8 @@ fn set_labels(
     let b = w.second as usize;
     let there = Reference { number: w.there };
     let back = Reference { number: w.back };
-    let n = set_or_join(cells, out, base, p, count, links, a, b, there);
-    set_or_join(cells, out, base, p, n, links, b, a, back)
+    let n = set_or_join(cells, out, newest, base, p, count, links, a, b, there);
+    set_or_join(cells, out, newest, base, p, n, links, b, a, back)
 }
 
 // Wires a switch: its labels, translated, and the links of its ends.
@@ -79,13 +88,16 @@ fn wire_switch(
     cells: &mut [u16; CELLS],
     links: &mut [u64; SIDE],
     out: &mut [u8],
+    newest: &mut [u16; BUCKETS],
     base: usize,
     p: usize,
     count: usize,
     w: Switch,
 ) -> usize
     requires { ⌜ Wirable p base (now references) (now cells) (now links) (now out) count w ⌝ }
+    requires { ⌜ now newest ≡ newestOf (recordsIn (now out) base count) ⌝ }
     ensures { λ n. ⌜ Wires p base (labelled p (linksIn (now (links .entry))) (translateSwitch p (now (references .entry)) w)) (joinsAt w (linksIn (now (links .entry)))) (link w (linksIn (now (links .entry)))) (now (cells .entry)) (now (out .entry)) count (now (cells .exit)) (now (links .exit)) (now (out .exit)) n ⌝ }
+    ensures { λ n. ⌜ now (newest .exit) ≡ newestOf (recordsIn (now (out .exit)) base n) ⌝ }
 {
     let there = givens::translated(references, p, w.there);
     let back = givens::translated(references, p, w.back);
@@ -95,7 +107,7 @@ fn wire_switch(
         there: there.number,
         back: back.number,
     };
-    let n = set_labels(cells, out, base, p, count, links, t);
+    let n = set_labels(cells, out, newest, base, p, count, links, t);
     rows::connect(links, w);
     n
 }
@@ -108,6 +120,7 @@ fn wire_switches(
     cells: &mut [u16; CELLS],
     links: &mut [u64; SIDE],
     out: &mut [u8],
+    newest: &mut [u16; BUCKETS],
     base: usize,
     count: usize,
 ) -> usize
@@ -115,7 +128,9 @@ fn wire_switches(
     requires { ⌜ Translating (now file) parts (now references) count ⌝ }
     requires { ⌜ now links ≡ replicate side 0 ⌝ }
     requires { ⌜ Ready (parts .variables) base (joinsOf (networkOf (now file) .switches)) (now cells) (now out) count ⌝ }
+    requires { ⌜ now newest ≡ newestOf (recordsIn (now out) base count) ⌝ }
     ensures { λ n. ⌜ Wires (parts .variables) base (wireAll (networkOf (now (file .entry))) noLinks (networkOf (now (file .entry)) .switches)) (joinsOf (networkOf (now (file .entry)) .switches)) (linksOf (networkOf (now (file .entry)) .switches)) (now (cells .entry)) (now (out .entry)) count (now (cells .exit)) (now (links .exit)) (now (out .exit)) n ⌝ }
+    ensures { λ n. ⌜ now (newest .exit) ≡ newestOf (recordsIn (now (out .exit)) base n) ⌝ }
 {
     let p = parts.variables;
     let switches = parts.switches;
@@ -123,7 +138,7 @@ fn wire_switches(
     let mut k = 0;
     while k < switches {
         let w = entries::switch_of(file, parts, k);
-        n = wire_switch(references, cells, links, out, base, p, n, w);
+        n = wire_switch(references, cells, links, out, newest, base, p, n, w);
         k += 1;
     }
     n
@@ -153,16 +168,29 @@ pub fn wire_sheet(
     cells: &mut [u16; CELLS],
     links: &mut [u64; SIDE],
     out: &mut [u8],
+    newest: &mut [u16; BUCKETS],
     base: usize,
 ) -> usize
     requires { ⌜ Sound edition (now file) parts ⌝ }
     requires { ⌜ now cells ≡ replicate cellCount 0 ⌝ }
     requires { ⌜ now links ≡ replicate side 0 ⌝ }
     requires { ⌜ Table (parts .variables) base (parts .givens + joinsOf (networkOf (now file) .switches)) 0 (now out) ⌝ }
+    requires { ⌜ now newest ≡ replicate buckets 0 ⌝ }
     ensures { λ n. ⌜ WiredIn (now (file .entry)) parts base (now (out .entry)) (now (cells .exit)) (now (links .exit)) (now (out .exit)) n ⌝ }
+    ensures { λ n. ⌜ now (newest .exit) ≡ newestOf (recordsIn (now (out .exit)) base n) ⌝ }
 {
     let mut references = [0; GIVENS];
-    let count = givens::pass_givens(file, parts, &mut references, out, base);
+    let count = givens::pass_givens(file, parts, &mut references, out, newest, base);
     put_starts(file, parts, &references, cells);
-    wire_switches(file, parts, &references, cells, links, out, base, count)
+    wire_switches(
+        file,
+        parts,
+        &references,
+        cells,
+        links,
+        out,
+        newest,
+        base,
+        count,
+    )
 }

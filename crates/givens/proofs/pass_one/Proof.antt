@@ -10,6 +10,6 @@ pass-one-spec =
     (tie.spec
     (λ c κs. search needs)
     (λ c κs. search needs)
-    (λ c κs. search needs)
+    (λ c κs. (search needs, (search needs, (search needs, search needs))))
     (λ c. search needs)
-    (λ c. search (makes-one, needs)))
+    (λ c. (search (makes-one, needs), search needs)))

@@ -5,7 +5,7 @@ use Rattle.operations.proofs.ask.Statement.{statement}
 use Rattle.operations.proofs.ask.Tie as tie
 
 product-requires : tie.Need-product-requires
-product-requires c κs = (search needs, (search (cell-below, needs), search (cell-below, needs), search (cell-below, needs)))
+product-requires c κs = (search needs, (search needs, (search (cell-below, needs), search (cell-below, needs), search (cell-below, needs))))
 
 pub ask-spec : {M : Type 1} → statement M
 ask-spec =
@@ -17,4 +17,4 @@ ask-spec =
     product-requires
     (λ c κs. search needs)
     (λ c. search needs)
-    (λ c. search (asked-ran, needs)))
+    (λ c. (search (asked-ran, needs), search needs)))

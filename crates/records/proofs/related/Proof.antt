@@ -1,6 +1,6 @@
 -- `records::related` meets its contract: at each return, the law of that way out.
-use borrow.Author.Needs.{needs}
 use Rattle.records.specs.Rules.{opposes, absorbs, joins}
+use borrow.Author.Needs.{needs}
 use Rattle.records.proofs.related.Statement.{statement}
 use Rattle.records.proofs.related.Tie as tie
 
@@ -12,11 +12,11 @@ related-spec =
     (λ c κs. search needs)
     (λ c κs. search needs)
     (λ c. search needs)
-    (λ c. search opposes)
+    (λ c. (search opposes, search needs))
     (λ c κs. search needs)
     (λ c κs. search needs)
     (λ c. search needs)
-    (λ c. search absorbs)
+    (λ c. (search absorbs, search needs))
     (λ c κs. search needs)
     (λ c. search needs)
-    (λ c. search joins))
+    (λ c. (search joins, search needs)))

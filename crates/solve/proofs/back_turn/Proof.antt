@@ -9,7 +9,7 @@ back-turn-spec =
     tie.close
     (tie.spec
     (λ c κs. search needs)
-    (λ c κs. (search (back-ready, needs), search needs))
+    (λ c κs. (search (back-ready, needs), (search needs, search needs)))
     (λ c. search needs)
-    (λ c. search (back-ran, needs))
-    (λ c. search (back-far, needs)))
+    (λ c. (search (back-ran, needs), search needs))
+    (λ c. (search (back-far, needs), search needs)))

@@ -6,7 +6,7 @@ use Rattle.wiring.proofs.set_or_join.Statement.{statement}
 use Rattle.wiring.proofs.set_or_join.Tie as tie
 
 make-requires : tie.Need-make-requires
-make-requires c κs = (search (label-room, needs), (search (cell-below, needs), search needs))
+make-requires c κs = (search (label-room, needs), (search needs, (search (cell-below, needs), search needs)))
 
 pub set-or-join-spec : {M : Type 1} → statement M
 set-or-join-spec =
@@ -19,6 +19,6 @@ set-or-join-spec =
     make-requires
     (λ c κs. search needs)
     (λ c. search needs)
-    (λ c. search (label-joined, needs))
+    (λ c. (search (label-joined, needs), search needs))
     (λ c κs. search needs)
-    (λ c. search (label-set, needs)))
+    (λ c. (search (label-set, needs), search needs)))

@@ -10,7 +10,7 @@ wire-switch-spec =
     (tie.spec
     (λ c κs. search needs)
     (λ c κs. search needs)
-    (λ c κs. search (labelling-one, needs))
+    (λ c κs. (search (labelling-one, needs), search needs))
     (λ c κs. search needs)
     (λ c. search needs)
-    (λ c. search (wires-one, needs)))
+    (λ c. (search (wires-one, needs), search needs)))

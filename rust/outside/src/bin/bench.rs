@@ -4,6 +4,7 @@ use outside::cards::{cards, growing, Card};
 use outside::looked::looked;
 use outside::timing::{figures, stacks, Figures, EMULATED, ROUNDS};
 use std::env::consts::ARCH;
+use std::env::var;
 use std::process::ExitCode;
 
 fn main() -> ExitCode {
@@ -31,13 +32,19 @@ fn bench() -> Result<(), String> {
     Ok(())
 }
 
-/// What is compared, and where.
+/// What is compared, and where. `./bench` names the machine where it has both sides built for another one.
 fn heading() {
-    println!("Machine: {ARCH}. Compared: one analysis of a file in memory, by the proved library and by the reference.");
+    let machine = var("BENCH_MACHINE");
+    println!(
+        "Machine: {}. Compared: one analysis of a file in memory, by the proved library and by the reference.",
+        machine.as_deref().unwrap_or(ARCH)
+    );
     println!("Each time is the best of {ROUNDS} rounds after a warm-up. An operation is one work or one join.");
     if EMULATED {
-        println!("THE LIBRARY'S TIMES ARE THOSE OF EMULATED CODE AND SAY NOTHING ABOUT THE LIBRARY: it is x86-64 code and runs under");
-        println!("an emulator here. They are taken inside the emulated process. The reference is native {ARCH} code.");
+        println!("NO RATIO IS GIVEN: the library is x86-64 code and runs under an emulator here, inside which its times are taken. The");
+        println!("reference is native {ARCH} code. With Rust's standard library for x86-64 ./bench runs both under the emulator.");
+    } else if machine.is_ok() {
+        println!("Both are called in this process, as {ARCH} code that tools/launch runs: under the kit's emulator where the machine is no x86-64.");
     } else {
         println!("Both are called in this process, as native {ARCH} code.");
     }
@@ -67,17 +74,18 @@ fn table(cards: &[Card]) -> Result<(), String> {
 
 /// The records looked at, a line for each card; the last column is the library's way.
 fn searches<'a>(cards: impl Iterator<Item = &'a Card>) -> Result<(), String> {
-    println!("{:40}{:>45}", "", "records looked at from the");
+    println!("{:40}{:>40}", "", "records looked at from the");
+    println!("{:64}{:^30}", "", "to the larger argument from the");
     println!(
-        "{:20}{:>10}{:>10}{:>12}{:>12}{:>30}",
-        "", "searches", "found", "first on", "newest on", "newest to the larger argument"
+        "{:20}{:>10}{:>10}{:>12}{:>12}{:>15}{:>15}",
+        "", "searches", "found", "first on", "newest on", "newest", "bucket's"
     );
     for card in cards {
         let name = &card.name;
         let looked = looked(&card.file).map_err(|why| format!("{name}: {why}"))?;
         print!("{name:20}{:>10}{:>10}", looked.searches, looked.found);
         print!("{:>12}{:>12}", looked.first_on, looked.newest_on);
-        println!("{:>30}", looked.to_argument);
+        println!("{:>15}{:>15}", looked.to_argument, looked.in_bucket);
     }
     Ok(())
 }
@@ -98,8 +106,12 @@ fn line(name: &str, figures: &Figures) {
             1e9 / nanoseconds
         );
     }
+    if EMULATED {
+        println!("{:>12}", "none");
+        return;
+    }
     println!(
-        "{:>12.1}",
+        "{:>12.2}",
         figures.library_nanoseconds / figures.reference_nanoseconds
     );
 }
