@@ -7,10 +7,9 @@ use Prim.Native.Nat.{ℕ, _+_}
 use native.Mathlib.Nat.{add-zero}
 use native.Mathlib.Omega.{arith}
 use borrow.Author.Tests.{eq-eqb, ne-eqb}
-use lib.Dec.{eqb}
 use lib.ListN.{length}
 use Rattle.analysis.specs.Wiring.{translated, setOrJoin, labelled, translateSwitch, wire}
-use Rattle.laws.specs.Tests.{byTest, bySame}
+use Rattle.laws.specs.Tests.{byTest, bySame, same-turned}
 use Rattle.links.specs.Links.{Graph}
 use Rattle.links.specs.Pairs.{pair-both, pair-other}
 use Rattle.links.specs.Switches.{pair, link, joinsAt}
@@ -31,10 +30,7 @@ use Rattle.meaning.specs.System.{signal}
 -- The label from a to b is the label from u to v where the pairs are the same.
 pair-same : (a b u v : ℕ) → sameCell (Label a b) (Label u v) ≡ pair a b u v
 unfolding sameCell
-pair-same a b u v = rw (turned a u, turned b v)
-  where
-    turned : (x y : ℕ) → eqb x y ≡ eqb y x
-    turned x y = bySame x y (λ e. rw e) (λ d. rw (ne-eqb x y d, ne-eqb y x (λ e. d (sym e))))
+pair-same a b u v = rw (same-turned a u, same-turned b v)
 
 label-set : (a b u v : ℕ) (x : Bool) (t : Cell → Bool) → setCell (Label a b) x t (Label u v) ≡ cond (pair a b u v) x (t (Label u v))
 unfolding setCell

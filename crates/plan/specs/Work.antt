@@ -4,13 +4,12 @@ use mathlib.Core.Bool.{Bool, true, false, not, cond}
 use mathlib.Core.List.{List}
 use Prim.Native.Nat.{ℕ, _+_, _*_, _^_, _<_, _≤_}
 use native.Mathlib.Omega.{arith}
-use borrow.Author.Tests.{eq-eqb, ne-eqb}
 use lib.Bits.{bitAnd, and-le-l}
 use lib.Count.{ones}
 use lib.Dec.{eqb}
 use lib.ListN.{length, getD}
 use Rattle.elimination.specs.WorkLaws.{neighbourWork, pivotWork}
-use Rattle.laws.specs.Tests.{bySame}
+use Rattle.laws.specs.Tests.{same-turned}
 use Rattle.links.specs.Lists.{keep, without, vertices}
 use Rattle.links.specs.Links.{Graph}
 use Rattle.links.specs.ListLaws.{keep-keep, keep-same}
@@ -49,11 +48,8 @@ labels-swap : (g : Graph) (ns : List ℕ) → total (λ v. total (λ u. cond (g 
 labels-swap g ns =
     total-same _ _ (λ v. total-keep (λ u. cond (g v u) 2 1) (λ u. not (eqb v u)) ns) ns
     ∙ total-swap (λ v u. cond (not (eqb v u)) (cond (g v u) 2 1) 0) ns ns
-    ∙ total-same _ _ (λ u. total-same _ _ (λ v. ap (λ (b : Bool). cond (not b) (cond (g v u) 2 1) 0) (turned v u)) ns
+    ∙ total-same _ _ (λ u. total-same _ _ (λ v. ap (λ (b : Bool). cond (not b) (cond (g v u) 2 1) 0) (same-turned v u)) ns
     ∙ sym (total-keep (λ v. cond (g v u) 2 1) (λ v. not (eqb u v)) ns)) ns
-  where
-    turned : (v u : ℕ) → eqb v u ≡ eqb u v
-    turned v u = bySame v u (λ e. eq-eqb v u e ∙ sym (eq-eqb u v (sym e))) (λ d. ne-eqb v u d ∙ sym (ne-eqb u v (λ e. d (sym e))))
 
 module _ (links : List ℕ) (near n : ℕ) (few : near < 2 ^ n) where
   -- The other neighbours that v is linked to.

@@ -8,7 +8,7 @@ use borrow.Author.Tests.{eq-eqb, ne-eqb}
 use lib.Dec.{eqb}
 use lib.ListN.{length, getD, set, length-set}
 use lib.Seq.{getD-set-same, getD-set-other}
-use Rattle.laws.specs.Tests.{bySame}
+use Rattle.laws.specs.Tests.{bySame, same-turned}
 use Rattle.links.specs.Switches.{pair, link, joinsAt}
 use Rattle.network.specs.Network.{side}
 use Rattle.network.specs.declared.Switch.{Switch}
@@ -40,11 +40,8 @@ module _ (links : List ℕ) (a b : ℕ) (h : a < length links) where
       let row = including (getD links a 0) b in
       bySame u a
       (λ e. rw (e, eq-eqb a a refl) (ap (λ (x : ℕ). has x v) (getD-set-same links a row 0 h) ∙ has-including (getD links a 0) b v
-      ∙ ap (λ (t : Bool). has (getD links a 0) v || t) (turned v)))
+      ∙ ap (λ (t : Bool). has (getD links a 0) v || t) (same-turned b v)))
       (λ d. rw (ne-eqb u a d) (ap (λ (x : ℕ). has x v) (getD-set-other links a u row 0 d) ∙ sym (or-false (has (getD links u 0) v))))
-    where
-      turned : (v : ℕ) → eqb b v ≡ eqb v b
-      turned v = bySame v b (λ e. eq-eqb b v (sym e) ∙ sym (eq-eqb v b e)) (λ d. ne-eqb b v (λ e. d (sym e)) ∙ sym (ne-eqb v b d))
 
   linked-long : length (linkedTo a b links) ≡ length links
   unfolding linkedTo

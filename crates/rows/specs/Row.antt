@@ -8,7 +8,7 @@ use native.Mathlib.Nat.{zero-div, pow-suc, mul-comm, div-div-eq-div-mul}
 use borrow.Author.Tests.{eq-eqb, ne-eqb, eqb-true}
 use lib.Arith.{bin-ind}
 use lib.Bits.{bitAnd, bitOr, bitXor, differ, and-step, or-step, xor-step, and-shr, or-shr, xor-shr, and-mask}
-use lib.Dec.{eqb}
+use lib.Dec.{eqb, eqb·zero-suc, eqb·suc-zero, eqb·suc-suc}
 use lib.Pow.{pow-pos, shl-exact}
 use Rattle.laws.specs.Tests.{bySame, both-true}
 use Rattle.links.specs.Lists.{keep, without, vertices}
@@ -104,23 +104,17 @@ unfolding has
 has-next row v =
     ap (λ (d : ℕ). eqb (row / d % 2) 1) (pow-suc 2 v ∙ mul-comm (2 ^ v) 2) ∙ ap (λ (q : ℕ). eqb (q % 2) 1) (sym (div-div-eq-div-mul row 2 (2 ^ v)))
 
-next-same : (v w : ℕ) → eqb v w ≡ eqb (suc v) (suc w)
-next-same v w =
-    bySame v w
-    (λ e. eq-eqb v w e ∙ sym (eq-eqb (suc v) (suc w) (ap suc e)))
-    (λ d. ne-eqb v w d ∙ sym (ne-eqb (suc v) (suc w) (λ e. d (omega arith))))
-
 -- The row of one vertex.
 has-one : (v w : ℕ) → has (2 ^ v) w ≡ eqb v w
 unfolding has
 has-one zero zero = refl
-has-one zero (suc w) = has-next 1 w ∙ has-none w ∙ sym (ne-eqb 0 (suc w) (λ e. omega arith))
+has-one zero (suc w) = has-next 1 w ∙ has-none w ∙ sym (eqb·zero-suc w)
 has-one (suc v) zero =
     let e : 2 ^ suc v / 2 ^ 0 % 2 ≡ 0 = (let p = pow-suc 2 v in omega arith) in
-    ap (λ (x : ℕ). eqb x 1) e ∙ sym (ne-eqb (suc v) 0 (λ q. omega arith))
+    ap (λ (x : ℕ). eqb x 1) e ∙ sym (eqb·suc-zero v)
 has-one (suc v) (suc w) =
     let e : 2 ^ suc v / 2 ≡ 2 ^ v = (let p = pow-suc 2 v in omega arith) in
-    has-next (2 ^ suc v) w ∙ ap (λ (x : ℕ). has x w) e ∙ has-one v w ∙ next-same v w
+    has-next (2 ^ suc v) w ∙ ap (λ (x : ℕ). has x w) e ∙ has-one v w ∙ sym (eqb·suc-suc v w)
 
 pub has-including : (row v w : ℕ) → has (including row v) w ≡ has row w || eqb v w
 unfolding including
