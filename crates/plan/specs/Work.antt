@@ -21,7 +21,7 @@ use Rattle.rows.specs.Table.{linksIn}
 
 -- No neighbour has more work: 4, and 2 for each bit of a row.
 abbrev pub neighbourMost : ℕ
-neighbourMost = 132
+neighbourMost = 4 + 2 * 64
 
 -- No pivot has more.
 abbrev pub pivotMost : ℕ
@@ -73,7 +73,7 @@ module _ (links : List ℕ) (near n : ℕ) (few : near < 2 ^ n) where
       ∙ ap (λ (vs : List ℕ). length (keep (linksIn links v) vs)) are in
       omega (arith, total-two (linksIn links v) us)
 
-  pub pivot-is : total (neighbourAsked links near) (vertices n) ≡ pivotWork (linksIn links) (verticesIn n near)
+  pivot-is : total (neighbourAsked links near) (vertices n) ≡ pivotWork (linksIn links) (verticesIn n near)
   unfolding neighbourAsked pivotWork neighbourWork verticesIn
   pivot-is =
       let g = linksIn links in

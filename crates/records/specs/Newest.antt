@@ -1,5 +1,5 @@
 -- The newest record of each bucket, where a search begins.
-use mathlib.Core.Path.{_≡_, refl, _∙_}
+use mathlib.Core.Path.{_≡_, _∙_}
 use mathlib.Core.List.{List, [], _∷_, _++_}
 use Prim.Native.Nat.{ℕ, zero, suc, _+_, _*_, _%_, _≤_, _<_}
 use native.Mathlib.Omega.{arith}
@@ -30,16 +30,11 @@ unfoldable pub newestOf : List Record → List ℕ
 newestOf rs = noteAll (replicate buckets 0) 0 rs
 
 -- There is such a bucket.
-pub bucket-below : (x : Record) → bucketOf x < buckets
+bucket-below : (x : Record) → bucketOf x < buckets
 unfolding bucketOf
 bucket-below x = omega arith
 
--- The array stays as long as it was, and a record noted last is written last.
-note-length : (newest : List ℕ) (k : ℕ) (rs : List Record) → length (noteAll newest k rs) ≡ length newest
-unfolding noteAll
-note-length newest k [] = refl
-note-length newest k (x ∷ rs) = note-length (set newest (bucketOf x) (k + 1)) (k + 1) rs ∙ length-set newest (bucketOf x) (k + 1)
-
+-- A record noted last is written last.
 note-more : (newest : List ℕ) (k : ℕ) (rs : List Record) (x : Record)
     → noteAll newest k (rs ++ (x ∷ [])) ≡ set (noteAll newest k rs) (bucketOf x) (k + length rs + 1)
 unfolding noteAll
@@ -81,10 +76,6 @@ note-after newest k (x ∷ rs) l (suc j) h =
     omega (arith, note-after (set newest (bucketOf x) (k + 1)) (k + 1) rs (length-set newest (bucketOf x) (k + 1) ∙ l) j (omega arith))
 
 module _ (rs : List Record) where
-  pub newest-length : length (newestOf rs) ≡ buckets
-  unfolding newestOf
-  newest-length = note-length (replicate buckets 0) 0 rs ∙ length-replicate {A = ℕ} buckets 0
-
   -- A record more is its bucket's newest.
   pub newest-more : (x : Record) → newestOf (rs ++ (x ∷ [])) ≡ set (newestOf rs) (bucketOf x) (length rs + 1)
   unfolding newestOf

@@ -92,10 +92,14 @@ module _ (w : Switch) (links : List ℕ) (long : length links ≡ side) where
     longs : length exit ≡ side
     longs = rw linked (linked-long half (w .second) (w .first) (omega (arith, half-long)) ∙ half-long)
 
+    connects : (r : ℕ) → r ≡ cond t 2 0 → r ≤ 2 → Connects w links exit r
+    unfolding joinsAt linksIn
+    connects r e most = record { graph = graphs; joins = e ∙ rw (ne-eqb _ _ d, ← test); most = most; rows = written; long = longs }
+
     pub connects-first : t ≡ false → Connects w links (set (set links (w .first) x) (w .second) y) 0
-    unfolding exit joinsAt linksIn
-    connects-first e = record { graph = graphs; joins = rw (ne-eqb _ _ d, ← test, e); most = omega arith; rows = written; long = longs }
+    unfolding exit
+    connects-first e = connects 0 (rw e) (omega arith)
 
     pub connects-later : t ≡ true → Connects w links (set (set links (w .first) x) (w .second) y) 2
-    unfolding exit joinsAt linksIn
-    connects-later e = record { graph = graphs; joins = rw (ne-eqb _ _ d, ← test, e); most = omega arith; rows = written; long = longs }
+    unfolding exit
+    connects-later e = connects 2 (rw e) (omega arith)

@@ -49,7 +49,7 @@ module _ (links order : List ℕ) (n k : ℕ) (level : Level links order n k) wh
 
   -- A pivot is left, and it is a vertex.
   module _ (d : k ≡ n → ⊥) where
-    pub level-some : k < n
+    level-some : k < n
     level-some = omega (arith, level .within)
 
     pub level-pivot : getD order k 0 < side
