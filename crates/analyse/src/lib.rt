@@ -1,4 +1,7 @@
 // The product: a wiring file analysed into a formula for each vertex, or refused with a number and a place.
+
+#![tactic(auto)]
+
 ghost use Rattle.std.specs.Prelude.{◌≡◌, ◌+◌, replicate};
 ghost use Rattle.form.specs.Refusals.{accepted};
 ghost use Rattle.network.specs.Layout.{Sound, network_answer};

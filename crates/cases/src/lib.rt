@@ -1,1 +1,3 @@
 // The worked cases of the outline, proved about the definitions. (In specs/.)
+
+#![tactic(auto)]

@@ -8,7 +8,7 @@ use mathlib.Core.List.Memᴰ
 use mathlib.Core.List.{List, [], ◌∷◌, Memᴰ}
 use Prim.Native.Nat.{ℕ, zero, suc, ◌+◌, ◌<◌}
 use native.Mathlib.Omega.{arith}
-use borrow.Author.Tests.{eqb-false, ne_eqb, not_true}
+use borrow.Author.Tests.{eqb-false, ne_eqb, not-true}
 use Rattle.laws.specs.Places.{members}
 use Rattle.laws.specs.Tests.{both_true, by_test, by_same}
 use Rattle.network.specs.declared.Sections.{Sections}
@@ -47,7 +47,7 @@ unmarked_set (x ∷ xs) (suc v) h e = omega (arith, unmarked_set xs v (omega ari
 module _ (value : ℕ → Bool) (label a b : ℕ) (marks : List ℕ) where
   spreads_parts : So (spreads value label a b marks) → So (value label) × (So (marked marks a) × (marked marks b ≡ false))
   unfolding spreads
-  spreads_parts t = let p = both_true _ _ t in let q = both_true _ _ p.1 in (p.0, (q.0, not_true _ q.1))
+  spreads_parts t = let p = both_true _ _ t in let q = both_true _ _ p.1 in (p.0, (q.0, not-true _ q.1))
 
   contact_sound : (P : ℕ → Type 0) → (So (value label) → P a → P b) → ((v : ℕ) → So (marked marks v) → P v)
       → (v : ℕ) → So (marked (contact value label a b marks) v) → P v

@@ -1,4 +1,7 @@
 // The direct answer for one setting: which vertices a path of closed contacts joins to a live source.
+
+#![tactic(auto)]
+
 ghost use Rattle.std.specs.Prelude.{◌≡◌, ◌<◌, ◌≤◌, length, replicate};
 ghost use Rattle.form.specs.Refusals.{accepted};
 ghost use Rattle.network.specs.Layout.{Sound, network_answer};

@@ -1,4 +1,7 @@
 // The entries of an accepted file.
+
+#![tactic(auto)]
+
 ghost use Rattle.std.specs.Prelude.{◌≡◌, ◌<◌};
 ghost use Rattle.form.specs.Numbers.{word_at};
 ghost use Rattle.network.specs.Layout.{Layout, coil_place, GivenRead, StartRead, SwitchRead};

@@ -1,7 +1,7 @@
 -- Every length and place that the product gives is below 2³², and refusals are numbered from 1 to 28.
 use Rattle.std.specs.Prelude.{◌≡◌, refl, not, List, [], ◌∷◌, ℕ, ◌<◌, ◌≤◌, eqb, leb, ltb}
 use native.Mathlib.Omega.{arith}
-use borrow.Author.Tests.{eqb-true, not_false}
+use borrow.Author.Tests.{eqb-true, not-false}
 use Rattle.std.proofs.Math.ListN.{length}
 use Rattle.analysis.specs.Analysis.{analysis_fault, analysis, length_in}
 use Rattle.analysis.specs.Result.{result_of}
@@ -58,7 +58,7 @@ module _ (s : List ℕ) where
     unfolding length_fault byte_fault
     bad_placed e f =
         let file = in_range edition s e in
-        let l : length setting ≡ length (network_of s).variables = eqb-true _ _ (not_false _ (if_fine _ _ _ f)) in
+        let l : length setting ≡ length (network_of s).variables = eqb-true _ _ (not-false _ (if_fine _ _ _ f)) in
         let few : first_bad setting ≤ 6656 = omega (arith, bad_within setting, variables_length file.layout, file.within.variables) in
         placed_if 6656 (ltb (first_bad setting) (length setting)) 11 (first_bad setting) (omega arith, omega arith, few)
 

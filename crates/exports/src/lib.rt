@@ -1,4 +1,7 @@
 // The doors to C and Rust: the product's functions under C names. A reply crosses as a number.
+
+#![tactic(auto)]
+
 ghost use Rattle.std.specs.Prelude.{◌≡◌};
 ghost use Rattle.form.specs.Refusals.{refused, number_of, place_of, reply_of};
 ghost use Rattle.analyse.specs.Promise.{Promise as AnalysePromise};

@@ -1,11 +1,14 @@
 // What every file is made of: 16-bit numbers, references and formulas; and how a call is refused.
+
+#![tactic(auto)]
+
 ghost use Rattle.std.specs.Prelude.{◌≡◌, ◌+◌, ◌<◌, ◌≤◌, eqb, length};
 ghost use Rattle.form.specs.Numbers.{word_at, put_word, bit_of};
 ghost use Rattle.form.specs.Refusals.{number_of, place_of};
 ghost use Rattle.form.specs.References.{variable};
 
 // A formula: its kind is 1 for and, 2 for or, 3 for not, and its arguments are references. A given formula and a record have this form.
-#[derive(Drop)]
+#[derive(Clone, Copy)]
 pub struct Record {
     pub kind: u16,
     pub first: u16,
@@ -13,7 +16,7 @@ pub struct Record {
 }
 
 // A reference: a constant, a variable, or a given formula or record.
-#[derive(Drop)]
+#[derive(Clone, Copy)]
 pub struct Reference {
     pub number: u16,
 }
@@ -37,7 +40,7 @@ impl Reference {
 }
 
 // What is wrong, by the refusals' numbers, with its place where that is not always 0. Number 8 is unused.
-#[derive(Drop)]
+#[derive(Clone, Copy)]
 pub enum Fault {
     Cut(usize),
     Count(usize),
@@ -93,7 +96,7 @@ impl Fault {
 }
 
 // The answer to a call that fills a lent buffer: how much it has written, or why it has written nothing.
-#[derive(Drop)]
+#[derive(Clone, Copy)]
 pub enum Reply {
     Accepted(usize),
     Refused(Fault),

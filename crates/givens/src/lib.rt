@@ -1,4 +1,7 @@
 // The given formulas of an accepted file pass through the rules, and become records in a lent buffer.
+
+#![tactic(auto)]
+
 ghost use Rattle.std.specs.Prelude.{◌≡◌, ◌<◌, ◌≤◌, replicate};
 ghost use Rattle.form.specs.References.{formula};
 ghost use Rattle.formula.specs.Givens.{translate};

@@ -25,6 +25,7 @@ module _ {A B : Type 0} (entry : A → List B) where
   -- The entries of each member are there,
   pub in_flat : (xs : List A) {x : A} {b : B} → Memᴰ x xs → Memᴰ b (entry x) → Memᴰ b (flat_map entry xs)
   unfolding flat_map
+  in_flat [] {b = b} x m = elim x [ ]
   in_flat (y ∷ ys) (Memᴰ.head e) m = Memᴰ.append_left (flat_map entry ys) (rw e at m)
   in_flat (y ∷ ys) (Memᴰ.tail n) m = Memᴰ.append_right (entry y) (in_flat ys n m)
 

@@ -1,1 +1,3 @@
 // Laws on Booleans and lists that the toolchain's library lacks. (In specs/.)
+
+#![tactic(auto)]

@@ -1,4 +1,7 @@
 // The lines of a result, put into a lent buffer.
+
+#![tactic(auto)]
+
 ghost use Rattle.std.specs.Prelude.{◌≡◌, ◌+◌, ◌<◌, ◌≤◌, length};
 ghost use Rattle.form.specs.Numbers.{word_at};
 ghost use Rattle.form.specs.References.{formula};
@@ -14,7 +17,7 @@ ghost use Rattle.text.specs.Texts.{decimal, field};
 use form::Record;
 
 // The counts of a result's sections, the places of those after the first, and the figures.
-#[derive(Drop)]
+#[derive(Clone, Copy)]
 struct Parts {
     variables: usize,
     records: usize,

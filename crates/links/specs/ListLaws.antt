@@ -4,7 +4,7 @@ use Rattle.std.proofs.Common.{ap, sym, ◌∙◌, ⊎_elim, arith, eq-eqb, ne_eq
 use Rattle.std.proofs.Math.Bool.{and_comm}
 use mathlib.Core.List.Memᴰ
 use mathlib.Core.List.{List, [], ◌∷◌, map, Memᴰ}
-use Rattle.std.proofs.lemmas.Bool.{eqb-false, not_true}
+use Rattle.std.proofs.lemmas.Bool.{eqb-false, not-true}
 use Rattle.std.proofs.lemmas.List.{length-map}
 use Rattle.laws.specs.Tests.{by_test, by_same}
 use Rattle.links.specs.Lists.{keep, without, lowest, up_to, vertices}
@@ -35,10 +35,11 @@ keep_in f (u ∷ us) {v} m = go (f u) refl m (keep_in f us)
 -- What is left without p is another.
 pub without_in : (p : ℕ) (vs : List ℕ) {v : ℕ} → Memᴰ v (without p vs) → Memᴰ v vs × (p ≢ v)
 without_in p vs {v} m =
-    let k = keep_in (λ u. not (eqb p u)) vs m in (k.0, eqb-false p v (not_true (eqb p v) k.1))
+    let k = keep_in (λ u. not (eqb p u)) vs m in (k.0, eqb-false p v (not-true (eqb p v) k.1))
 
 -- What is there and passes is kept,
 pub in_keep : (f : ℕ → Bool) (vs : List ℕ) {v : ℕ} → Memᴰ v vs → f v ≡ true → Memᴰ v (keep f vs)
+in_keep f [] {v = v} m h = elim m [ ]
 in_keep f (u ∷ us) (Memᴰ.head e) h = let t = rw e at h in rw t (Memᴰ.head e)
 in_keep f (u ∷ us) (Memᴰ.tail m) h =
     let k = in_keep f us m h in by_test (f u) (λ t. rw t (Memᴰ.tail k)) (λ t. rw t k)

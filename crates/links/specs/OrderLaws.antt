@@ -1,6 +1,6 @@
 -- Laws of orders, and of rule M's: it takes each vertex, and none other.
 use Rattle.std.specs.Prelude.{◌≡◌, refl, not, ℕ, zero, suc, ◌<◌, ◌≤◌, eqb, length}
-use Rattle.std.proofs.Common.{ap, ◌∙◌, ⊎_elim, arith}
+use Rattle.std.proofs.Common.{ap, sym, ◌∙◌, ⊎_elim, arith}
 use mathlib.Core.List.Memᴰ
 use mathlib.Core.List.{List, [], ◌∷◌, Memᴰ}
 use Rattle.links.specs.Lists.{without, vertices}
@@ -31,7 +31,7 @@ steps_length g vs (p ∷ ps) = ap suc (steps_length (gone p g) (without p vs) ps
 pub order_more : (k : ℕ) (g : Graph) (vs : List ℕ) (p : ℕ) → p ≡ pivot g vs → 0 < length vs
     → order_of (suc k) g vs ≡ p ∷ order_of k (gone p g) (without p vs)
 order_more k g [] p e h = absurd (omega arith)
-order_more k g (v ∷ vs) p e h = rw e
+order_more k g (v ∷ vs) p e h = ap (λ (q : ℕ). q ∷ order_of k (gone q g) (without q (v ∷ vs))) (sym e)
 
 order_of_takes : (k : ℕ) (g : Graph) (vs : List ℕ) → Ascending vs → length vs ≤ k → TakesAll vs (order_of k g vs)
 order_of_takes zero g [] a h = none_left

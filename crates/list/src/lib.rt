@@ -1,4 +1,7 @@
 // The listing of a wiring file, as text.
+
+#![tactic(auto)]
+
 ghost use Rattle.std.specs.Prelude.{◌≡◌, ◌≤◌, length};
 ghost use Rattle.form.specs.Refusals.{number_of, place_of};
 ghost use Rattle.analysis.specs.Room.{result_room};

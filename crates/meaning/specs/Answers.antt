@@ -1,6 +1,6 @@
 -- The answers are right: under every setting, a vertex's formula is true exactly where the path rule leads to it.
 use Rattle.std.specs.Prelude.{◌≡◌, ◌↔◌, List, ℕ, ◌+◌, ◌<◌, length}
-use Rattle.std.proofs.Math.Logic.{Iff·trans}
+use Rattle.std.proofs.Math.Logic.Iff
 use Rattle.std.proofs.Math.Bool.{So}
 use Rattle.analysis.specs.Result.{eliminated}
 use Rattle.analysis.specs.Wiring.{wired}
@@ -36,9 +36,9 @@ module _ (net : Network) (ranged : Ranged net) where
     answer_leads =
         let a = wired_agrees net ranged setting sized in
         rw (perform_worth setting (length net.variables) _ sized _ (wired net) (wired_standing net ranged) (Start v))
-        (Iff·trans (rule_m truths (λ b. b) read_truths _ (symmetric_links net.switches) (length net.starts) (worth_of setting (wired net)) v h)
+        (Iff.trans (rule_m truths (λ b. b) read_truths _ (symmetric_links net.switches) (length net.starts) (worth_of setting (wired net)) v h)
         (agree_leads a, agree_leads (agree_sym a)))
 
     -- and so by the path rule over its own switches.
     pub answer_right : So (worth_of setting (eliminated net) (Start v)) ↔ Reached net setting v
-    answer_right = Iff·trans answer_leads (leads_iff net ranged setting v)
+    answer_right = Iff.trans answer_leads (leads_iff net ranged setting v)

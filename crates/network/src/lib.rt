@@ -1,10 +1,12 @@
 // What a wiring file says: variables, given formulas, vertices and switches.
 
+#![tactic(auto)]
+
 // The width of the tables by vertex.
 pub const SIDE: usize = 24;
 
 // The most entries that each section may have.
-#[derive(Drop)]
+#[derive(Clone, Copy)]
 pub struct Limits {
     pub variables: usize,
     pub givens: usize,
@@ -13,7 +15,7 @@ pub struct Limits {
 }
 
 // A switch: its ends, its label from the first end to the second, and its label back.
-#[derive(Drop)]
+#[derive(Clone, Copy)]
 pub struct Switch {
     pub first: u16,
     pub second: u16,
@@ -22,7 +24,7 @@ pub struct Switch {
 }
 
 // The counts of an accepted file, and the places of the counts after the first.
-#[derive(Drop)]
+#[derive(Clone, Copy)]
 pub struct Sections {
     pub variables: usize,
     pub givens: usize,

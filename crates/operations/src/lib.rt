@@ -1,4 +1,7 @@
 // One operation on the sheet: cells that hold references, and records in a lent buffer.
+
+#![tactic(auto)]
+
 ghost use Rattle.std.specs.Prelude.{◌≡◌, cond, [], ◌∷◌, ◌<◌, set};
 ghost use Rattle.form.specs.References.{formula};
 ghost use Rattle.network.specs.Network.{side};

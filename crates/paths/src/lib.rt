@@ -1,1 +1,3 @@
 // What "joined to a live source" means. (Definitions in specs/.)
+
+#![tactic(auto)]

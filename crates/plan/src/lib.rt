@@ -1,4 +1,7 @@
 // The plan of an elimination: rule M's order, the degrees, the work and the joins.
+
+#![tactic(auto)]
+
 ghost use Rattle.std.specs.Prelude.{◌≡◌, ◌+◌, ◌^◌, ◌<◌, ◌≤◌, length};
 ghost use Rattle.elimination.specs.WorkLaws.{pivot_work};
 ghost use Rattle.network.specs.Network.{side, edition, network_of};
@@ -41,7 +44,7 @@ fn pivot_work(links: &[u64; SIDE], near: u64, n: usize) -> usize
 }
 
 // A vertex, and its degree.
-#[derive(Drop)]
+#[derive(Clone, Copy)]
 pub struct Taken {
     pub vertex: usize,
     pub degree: usize,
@@ -100,7 +103,7 @@ fn wire(file: &[u8], parts: Sections, links: &mut [u64; SIDE]) -> usize
 }
 
 // The order of the vertices, the degree of each when it is taken, the work, and the joins. Both lists are 0 beyond the last vertex.
-#[derive(Drop)]
+#[derive(Clone, Copy)]
 pub struct Plan {
     pub order: [usize; SIDE],
     pub degrees: [usize; SIDE],
@@ -109,7 +112,7 @@ pub struct Plan {
 }
 
 // A step of the elimination: the pivot, its degree when it is taken, and its work.
-#[derive(Drop)]
+#[derive(Clone, Copy)]
 pub struct Stepped {
     pub vertex: usize,
     pub degree: usize,

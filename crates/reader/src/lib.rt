@@ -1,4 +1,7 @@
 // The reader of the network form: every byte string is accepted, with the counts of its sections, or refused, with its first fault.
+
+#![tactic(auto)]
+
 ghost use Rattle.std.specs.Prelude.{◌≡◌, ◌+◌, ◌^◌, ◌<◌, ◌≤◌, length};
 ghost use Rattle.form.specs.Refusals.{first_of};
 ghost use Rattle.network.specs.Network.{edition};
@@ -10,14 +13,14 @@ use form::Fault;
 use network::{Limits, SIDE, Sections};
 
 // What a test finds.
-#[derive(Drop)]
+#[derive(Clone, Copy)]
 pub enum Tested {
     Fine,
     Wrong(Fault),
 }
 
 // A section, with what its entries are tested against.
-#[derive(Drop)]
+#[derive(Clone, Copy)]
 pub enum Section {
     Variables,
     // How many variables there are.
@@ -29,14 +32,14 @@ pub enum Section {
 }
 
 // What reading a section finds: its count, or its first fault.
-#[derive(Drop)]
+#[derive(Clone, Copy)]
 pub enum Counted {
     Entries(u16),
     Wrong(Fault),
 }
 
 // What reading a file finds: its sections, or its first fault.
-#[derive(Drop)]
+#[derive(Clone, Copy)]
 pub enum Checked {
     Accepted(Sections),
     Refused(Fault),

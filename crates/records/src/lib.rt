@@ -1,4 +1,7 @@
 // A table of formula records in a lent buffer: read, found, appended, and made by the rules.
+
+#![tactic(auto)]
+
 ghost use Rattle.std.specs.Prelude.{◌≡◌, ◌+◌, ◌-◌, ◌*◌, ◌<◌, ◌≤◌, length};
 ghost use Rattle.form.specs.References.{formula};
 ghost use Rattle.formula.specs.Make.{same, not_of, and_or, holds, absorbed, neutral, deciding, index_of, named, enter, negate, relate, combine, make};
@@ -11,7 +14,7 @@ ghost use Rattle.records.specs.Newest.{buckets, bucket_of, newest_of};
 use form::{Record, Reference};
 
 // What making gives: a reference, and how many records there are then.
-#[derive(Drop)]
+#[derive(Clone, Copy)]
 pub struct Made {
     pub reference: Reference,
     pub count: usize,

@@ -1,4 +1,7 @@
 // Links as a row of bits for each vertex: row u has the vertices that u is linked to. A set of vertices is such a row too.
+
+#![tactic(auto)]
+
 ghost use Rattle.std.specs.Prelude.{◌≡◌, ◌^◌, ◌<◌, ◌≤◌, length};
 ghost use Rattle.std.specs.Int.Count.{ones};
 ghost use Rattle.network.specs.Network.{side};

@@ -1,4 +1,7 @@
 // The elimination carried out: each pivot passed in the planned order, and answered from last to first.
+
+#![tactic(auto)]
+
 ghost use Rattle.std.specs.Prelude.{◌≡◌, ◌<◌, ◌≤◌, length};
 ghost use Rattle.network.specs.Network.{side};
 ghost use Rattle.operations.specs.Runs.{Ready, Ran};

@@ -1,4 +1,7 @@
 // Text put into a lent buffer: texts, numbers in decimal, and lines of the two.
+
+#![tactic(auto)]
+
 ghost use Rattle.std.specs.Prelude.{◌≡◌, ◌+◌, ◌<◌, ◌≤◌, length};
 ghost use Rattle.text.specs.Puts.{Puts};
 ghost use Rattle.text.specs.Texts.{digit, decimal, field, pair_line};

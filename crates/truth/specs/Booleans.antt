@@ -24,6 +24,7 @@ module _ {A : Type 0} (f : A → Bool) where
   -- A true term makes the sum true,
   pub any_intro : (xs : List A) {x : A} → Memᴰ x xs → So (f x) → So (any_of f xs)
   unfolding any_of
+  any_intro [] m h = elim m [ ]
   any_intro (y ∷ ys) (Memᴰ.head e) h = rw (rw e at h)
   any_intro (y ∷ ys) (Memᴰ.tail m) h = or_right (f y) (any_of f ys) (any_intro ys m h)
 

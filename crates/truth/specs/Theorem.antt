@@ -2,7 +2,7 @@
 use Rattle.std.specs.Prelude.{◌≡◌, ◌↔◌, Bool, not, ◌&&◌, ◌||◌, ℕ, ◌<◌}
 use Rattle.std.proofs.Math.Path.{refl}
 use Rattle.std.proofs.Common.{◌∙◌, arith}
-use Rattle.std.proofs.Math.Logic.{Iff·trans}
+use Rattle.std.proofs.Math.Logic.Iff
 use Rattle.std.proofs.Math.Bool.{So}
 use mathlib.Core.List.{List, ◌∷◌, ◌++◌, Memᴰ}
 use Rattle.laws.specs.Tests.{by_test}
@@ -47,7 +47,7 @@ module _ (g : Graph) (s : Symmetric g) (vs ps : List ℕ) (p : ℕ) (n : Memᴰ 
       let own : ¬ Memᴰ p (without p vs) = λ k. (without_in p vs k).1 refl in
       rw (carry_append truths (forward g p ns) (later ++ backward p ns) t, carry_append truths later (backward p ns) passed)
       (backward_right g s vs p n t answered (own_kept (Start p) own) (λ u. own_kept (Label u p) (λ w. own w.1))
-      (λ u k. Iff·trans (right u k) (agree_leads a, agree_leads (agree_sym a))) v m)
+      (λ u k. Iff.trans (right u k) (agree_leads a, agree_leads (agree_sym a))) v m)
 
 -- So every order is right on truths.
 on_truths : (g : Graph) → Symmetric g → {vs ps : List ℕ} → TakesAll vs ps → (t : Cell → Bool) → (v : ℕ) → Memᴰ v vs

@@ -1,7 +1,7 @@
 -- Which cells a plan writes.
 use Rattle.std.specs.Prelude.{◌≡◌, refl, ◌≢◌, true, false, ℕ, eqb}
 use Rattle.std.proofs.Common.{ap, eqb-true}
-use Rattle.std.proofs.Math.Logic.{Ne·symm, ⊎_elim}
+use Rattle.std.proofs.Math.Logic.{Ne-symm, ⊎_elim}
 use Rattle.std.proofs.Math.Bool.{So}
 use Rattle.std.proofs.lemmas.Bool.{false≢true}
 use mathlib.Core.List.Memᴰ
@@ -66,7 +66,7 @@ module _ (g : Graph) (p : ℕ) (ns : List ℕ) where
   -- and each label between two,
   pub label_in : (u v : ℕ) → Memᴰ u ns → Memᴰ v ns → u ≢ v → Memᴰ (pass_label g p v u) (forward g p ns)
   unfolding forward turn
-  label_in u v m n d = in_flat turn ns n (Memᴰ.tail (Memᴰ.map (pass_label g p v) (in_without v ns m (Ne·symm d))))
+  label_in u v m n d = in_flat turn ns n (Memᴰ.tail (Memᴰ.map (pass_label g p v) (in_without v ns m (Ne-symm d))))
 
   -- and nothing else.
   pub forward_in_lem : (x : Ask) → Memᴰ x (forward g p ns) → Within ns x.to × (x ≡ pass_to g p x.to)

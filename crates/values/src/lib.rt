@@ -1,4 +1,7 @@
 // What the references of a file are worth under a setting.
+
+#![tactic(auto)]
+
 ghost use Rattle.std.specs.Prelude.{◌≡◌, ◌≤◌, ◌<◌, length, replicate};
 ghost use Rattle.formula.specs.Worth.{value_at, worth};
 ghost use Rattle.formula.specs.Worth.{leaves as leafValues};

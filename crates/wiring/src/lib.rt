@@ -1,4 +1,7 @@
 // The sheet from which the elimination starts: starts and labels translated, labels joined.
+
+#![tactic(auto)]
+
 ghost use Rattle.std.specs.Prelude.{◌≡◌, ◌+◌, ◌<◌, replicate};
 ghost use Rattle.form.specs.References.{formula};
 ghost use Rattle.network.specs.Layout.{Sound};

@@ -1,4 +1,7 @@
 // The result's writer: the variables before the records, and everything after them.
+
+#![tactic(auto)]
+
 ghost use Rattle.std.specs.Prelude.{◌≡◌, [], ◌∷◌, ◌+◌, ◌*◌, ◌<◌, ◌≤◌, length};
 ghost use Rattle.analysis.specs.Result.{section, single, step_entry};
 ghost use Rattle.form.specs.Numbers.{put_word, put_numbers};

@@ -7,10 +7,10 @@ use borrow.Author.Rules.{rules}
 use Rattle.direct.proofs.begin.Statement.{statement}
 use Rattle.direct.proofs.begin.Tie as tie
 
-abbrev invariant-loop : tie.invariant-loop
+abbrev invariant-loop : tie.invariant-loop-v
 invariant-loop file parts values marks₀ count v₀ marks v = (v ≤ count) × Beginning (value_in values) (network_of file).starts marks v
 
-abbrev decreases-loop : tie.decreases-loop
+abbrev decreases-loop : tie.decreases-loop-v
 decreases-loop file parts values marks₀ count v₀ marks v = count - v
 
 pub begin_spec : {M : Type 1} → statement M

@@ -6,10 +6,10 @@ use borrow.Author.Rules.{rules}
 use Rattle.direct.proofs.first_bad.Statement.{statement}
 use Rattle.direct.proofs.first_bad.Tie as tie
 
-abbrev invariant-loop : tie.invariant-loop
+abbrev invariant-loop : tie.invariant-loop-k
 invariant-loop setting k₀ k = Searching setting k
 
-abbrev decreases-loop : tie.decreases-loop
+abbrev decreases-loop : tie.decreases-loop-k
 decreases-loop setting k₀ k = length setting - k
 
 pub first_bad_spec : {M : Type 1} → statement M

@@ -6,10 +6,10 @@ use borrow.Author.Rules.{rules}
 use Rattle.direct.proofs.spread.Statement.{statement}
 use Rattle.direct.proofs.spread.Tie as tie
 
-abbrev invariant-loop : tie.invariant-loop
+abbrev invariant-loop : tie.invariant-loop-new
 invariant-loop file parts values marks₀ new₀ marks new = Spreading (value_in values) (network_of file).switches marks₀ marks new
 
-abbrev decreases-loop : tie.decreases-loop
+abbrev decreases-loop : tie.decreases-loop-new
 decreases-loop file parts values marks₀ new₀ marks new = pending marks new
 
 pub spread_spec : {M : Type 1} → statement M

@@ -7,10 +7,10 @@ use borrow.Author.Rules.{rules}
 use Rattle.direct.proofs.sweep.Statement.{statement}
 use Rattle.direct.proofs.sweep.Tie as tie
 
-abbrev invariant-loop : tie.invariant-loop
+abbrev invariant-loop : tie.invariant-loop-k
 invariant-loop file parts values marks₀ count new₀ k₀ marks new k = (k ≤ count) × Sweeping (value_in values) (network_of file).switches marks₀ marks k new
 
-abbrev decreases-loop : tie.decreases-loop
+abbrev decreases-loop : tie.decreases-loop-k
 decreases-loop file parts values marks₀ count new₀ k₀ marks new k = count - k
 
 pub sweep_spec : {M : Type 1} → statement M

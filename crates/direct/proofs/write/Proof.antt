@@ -5,10 +5,10 @@ use borrow.Author.Rules.{rules}
 use Rattle.direct.proofs.write.Statement.{statement}
 use Rattle.direct.proofs.write.Tie as tie
 
-abbrev invariant-loop : tie.invariant-loop
+abbrev invariant-loop : tie.invariant-loop-v
 invariant-loop marks n out₀ v₀ out v = Written marks n out₀ out v
 
-abbrev decreases-loop : tie.decreases-loop
+abbrev decreases-loop : tie.decreases-loop-v
 decreases-loop marks n out₀ v₀ out v = n - v
 
 pub write_spec : {M : Type 1} → statement M

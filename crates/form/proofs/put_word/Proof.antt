@@ -6,8 +6,8 @@ use borrow.Author.Rules.{rules}
 use Rattle.form.proofs.put_word.Statement.{statement}
 use Rattle.form.proofs.put_word.Tie as tie
 
-slice-write-s-2 : tie.Need-slice-write-s-2
-slice-write-s-2 c = simp length-set (omega arith)
+bounds-s-at-2 : tie.Need-bounds-s-at-2
+bounds-s-at-2 c = simp length-set (omega arith)
 
 returns : tie.Need-returns
 unfolding put_word
@@ -21,6 +21,6 @@ put_word_spec =
     (λ c. search rules)
     (λ c. search rules)
     (λ c. search rules)
-    slice-write-s-2
+    bounds-s-at-2
     (λ c. search rules)
     returns)

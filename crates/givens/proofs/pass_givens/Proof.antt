@@ -8,10 +8,10 @@ use borrow.Author.Rules.{rules}
 use Rattle.givens.proofs.pass_givens.Statement.{statement}
 use Rattle.givens.proofs.pass_givens.Tie as tie
 
-abbrev invariant-loop : tie.invariant-loop
+abbrev invariant-loop : tie.invariant-loop-k
 invariant-loop file parts references₀ out₀ newest₀ base p n count₀ k₀ references out newest count k = Passing file parts base out₀ references out count k × (newest ≡ newest_of (records_in out base count))
 
-abbrev decreases-loop : tie.decreases-loop
+abbrev decreases-loop : tie.decreases-loop-k
 decreases-loop file parts references₀ out₀ newest₀ base p n count₀ k₀ references out newest count k = n - k
 
 pub pass_givens_spec : {M : Type 1} → statement M

@@ -4,7 +4,7 @@ use borrow.Author.Rules.{rules}
 use Rattle.operations.proofs.ask.Statement.{statement}
 use Rattle.operations.proofs.ask.Tie as tie
 
-product-requires : tie.Need-product-requires
+product-requires : tie.Need-product-m-requires
 product-requires c κs = (search rules, (search rules, (search (cell_below, rules), search (cell_below, rules), search (cell_below, rules))))
 
 pub ask_spec : {M : Type 1} → statement M

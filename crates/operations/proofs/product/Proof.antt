@@ -5,7 +5,7 @@ use borrow.Author.Rules.{rules}
 use Rattle.operations.proofs.product.Statement.{statement}
 use Rattle.operations.proofs.product.Tie as tie
 
-make-requires-2 : tie.Need-make-requires-2
+make-requires-2 : tie.Need-make-requires
 make-requires-2 c κs = (search (sum_room, rules), (search rules, (search (sum_first, rules), search (sum_second, rules))))
 
 pub product_spec : {M : Type 1} → statement M

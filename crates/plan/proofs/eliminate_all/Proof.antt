@@ -6,10 +6,10 @@ use borrow.Author.Rules.{rules}
 use Rattle.plan.proofs.eliminate_all.Statement.{statement}
 use Rattle.plan.proofs.eliminate_all.Tie as tie
 
-abbrev invariant-loop : tie.invariant-loop
+abbrev invariant-loop : tie.invariant-loop-k
 invariant-loop links₀ n joins rest₀ order₀ degrees₀ work₀ k₀ links rest order degrees work k = Planning (links_in links₀) n links rest order degrees work k
 
-abbrev decreases-loop : tie.decreases-loop
+abbrev decreases-loop : tie.decreases-loop-k
 decreases-loop links₀ n joins rest₀ order₀ degrees₀ work₀ k₀ links rest order degrees work k = n - k
 
 pub eliminate_all_spec : {M : Type 1} → statement M

@@ -5,10 +5,10 @@ use borrow.Author.Rules.{rules}
 use Rattle.plan.proofs.pivot.Statement.{statement}
 use Rattle.plan.proofs.pivot.Tie as tie
 
-abbrev invariant-loop : tie.invariant-loop
+abbrev invariant-loop : tie.invariant-loop-v
 invariant-loop links rest n best₀ v₀ best v = Scanning links rest n v best
 
-abbrev decreases-loop : tie.decreases-loop
+abbrev decreases-loop : tie.decreases-loop-v
 decreases-loop links rest n best₀ v₀ best v = n - v
 
 pub pivot_spec : {M : Type 1} → statement M

@@ -6,10 +6,10 @@ use borrow.Author.Rules.{rules}
 use Rattle.plan.proofs.pivot_work.Statement.{statement}
 use Rattle.plan.proofs.pivot_work.Tie as tie
 
-abbrev invariant-loop : tie.invariant-loop
+abbrev invariant-loop : tie.invariant-loop-v
 invariant-loop links near n work₀ v₀ work v = Summing (neighbour_asked links near) neighbour_most n v work
 
-abbrev decreases-loop : tie.decreases-loop
+abbrev decreases-loop : tie.decreases-loop-v
 decreases-loop links near n work₀ v₀ work v = n - v
 
 pub pivot_work_spec : {M : Type 1} → statement M

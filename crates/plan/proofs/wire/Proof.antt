@@ -6,10 +6,10 @@ use borrow.Author.Rules.{rules}
 use Rattle.plan.proofs.wire.Statement.{statement}
 use Rattle.plan.proofs.wire.Tie as tie
 
-abbrev invariant-loop : tie.invariant-loop
+abbrev invariant-loop : tie.invariant-loop-k
 invariant-loop file parts links₀ count joins₀ k₀ links joins k = (k ≤ count) × Wiring (network_of file).switches links₀ links k joins
 
-abbrev decreases-loop : tie.decreases-loop
+abbrev decreases-loop : tie.decreases-loop-k
 decreases-loop file parts links₀ count joins₀ k₀ links joins k = count - k
 
 pub wire_spec : {M : Type 1} → statement M

@@ -4,10 +4,10 @@ use borrow.Author.Rules.{rules}
 use Rattle.records.proofs.find.Statement.{statement}
 use Rattle.records.proofs.find.Tie as tie
 
-abbrev invariant-loop : tie.invariant-loop
+abbrev invariant-loop : tie.invariant-loop-k
 invariant-loop s newest base p count x least k₀ k = Searched s base count x k
 
-abbrev decreases-loop : tie.decreases-loop
+abbrev decreases-loop : tie.decreases-loop-k
 decreases-loop s newest base p count x least k₀ k = k
 
 pub find_spec : {M : Type 1} → statement M

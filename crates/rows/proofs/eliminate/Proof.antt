@@ -6,10 +6,10 @@ use Rattle.rows.specs.Gone.{Going, going_none, going_more, going_all}
 use Rattle.rows.proofs.eliminate.Statement.{statement}
 use Rattle.rows.proofs.eliminate.Tie as tie
 
-abbrev invariant-loop : tie.invariant-loop
+abbrev invariant-loop : tie.invariant-loop-u
 invariant-loop links₀ p through u₀ links u = Going links₀ p links u
 
-abbrev decreases-loop : tie.decreases-loop
+abbrev decreases-loop : tie.decreases-loop-u
 decreases-loop links₀ p through u₀ links u = side - u
 
 pub eliminate_spec : {M : Type 1} → statement M

@@ -6,7 +6,7 @@ use Rattle.rows.specs.Counts.{ones_most}
 use Rattle.rows.proofs.size.Statement.{statement}
 use Rattle.rows.proofs.size.Tie as tie
 
-cast-result : tie.Need-overflow-cast-result
+cast-result : tie.Need-overflow_cast-result
 cast-result c = record { fits = omega (arith, ones_most c.args.row c.ranges.row.fits) }
 
 returns : tie.Need-returns

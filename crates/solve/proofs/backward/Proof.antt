@@ -9,10 +9,10 @@ use borrow.Author.Rules.{rules}
 use Rattle.solve.proofs.backward.Statement.{statement}
 use Rattle.solve.proofs.backward.Tie as tie
 
-abbrev invariant-loop : tie.invariant-loop
+abbrev invariant-loop : tie.invariant-loop-u
 invariant-loop cells₀ out₀ newest₀ base p count near n pivot made₀ u₀ cells out newest made u = Looping p base (back_turn near pivot) n cells₀ out₀ count u cells out made × (newest ≡ newest_of (records_in out base made))
 
-abbrev decreases-loop : tie.decreases-loop
+abbrev decreases-loop : tie.decreases-loop-u
 decreases-loop cells₀ out₀ newest₀ base p count near n pivot made₀ u₀ cells out newest made u = n - u
 
 pub backward_spec : {M : Type 1} → statement M

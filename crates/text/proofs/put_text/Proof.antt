@@ -6,10 +6,10 @@ use borrow.Author.Rules.{rules}
 use Rattle.text.proofs.put_text.Statement.{statement}
 use Rattle.text.proofs.put_text.Tie as tie
 
-abbrev invariant-loop : tie.invariant-loop
+abbrev invariant-loop : tie.invariant-loop-i
 invariant-loop out₀ at text i₀ out i = Rest text at out₀ (drop i text) (at + i) out
 
-abbrev decreases-loop : tie.decreases-loop
+abbrev decreases-loop : tie.decreases-loop-i
 decreases-loop out₀ at text i₀ out i = length text - i
 
 pub put_text_spec : {M : Type 1} → statement M

@@ -6,10 +6,10 @@ use borrow.Author.Rules.{rules}
 use Rattle.values.proofs.leaves.Statement.{statement}
 use Rattle.values.proofs.leaves.Tie as tie
 
-abbrev invariant-loop : tie.invariant-loop
+abbrev invariant-loop : tie.invariant-loop-k
 invariant-loop setting values₀ place k₀ values k = Filling setting values k
 
-abbrev decreases-loop : tie.decreases-loop
+abbrev decreases-loop : tie.decreases-loop-k
 decreases-loop setting values₀ place k₀ values k = length setting - k
 
 pub leaves_spec : {M : Type 1} → statement M

@@ -7,10 +7,10 @@ use borrow.Author.Rules.{rules}
 use Rattle.values.proofs.values_of.Statement.{statement}
 use Rattle.values.proofs.values_of.Tie as tie
 
-abbrev invariant-loop : tie.invariant-loop
+abbrev invariant-loop : tie.invariant-loop-k
 invariant-loop file parts setting values₀ count base k₀ values k = (k ≤ count) × Running setting (network_of file).givens values k
 
-abbrev decreases-loop : tie.decreases-loop
+abbrev decreases-loop : tie.decreases-loop-k
 decreases-loop file parts setting values₀ count base k₀ values k = count - k
 
 pub values_of_spec : {M : Type 1} → statement M

@@ -6,10 +6,10 @@ use borrow.Author.Rules.{rules}
 use Rattle.wiring.proofs.put_starts.Statement.{statement}
 use Rattle.wiring.proofs.put_starts.Tie as tie
 
-abbrev invariant-loop : tie.invariant-loop
+abbrev invariant-loop : tie.invariant-loop-v
 invariant-loop file parts references cells₀ p count v₀ cells v = (v ≤ count) × Started p references (network_of file).starts cells v
 
-abbrev decreases-loop : tie.decreases-loop
+abbrev decreases-loop : tie.decreases-loop-v
 decreases-loop file parts references cells₀ p count v₀ cells v = count - v
 
 pub put_starts_spec : {M : Type 1} → statement M

@@ -4,7 +4,7 @@ use borrow.Author.Rules.{rules}
 use Rattle.wiring.proofs.set_labels.Statement.{statement}
 use Rattle.wiring.proofs.set_labels.Tie as tie
 
-set-or-join-requires-2 : tie.Need-set-or-join-requires-2
+set-or-join-requires-2 : tie.Need-set_or_join-requires
 set-or-join-requires-2 c κs = (search (back_ready, rules), ((search rules, search rules, search (back_there, rules)), search rules))
 
 pub set_labels_spec : {M : Type 1} → statement M

@@ -5,7 +5,7 @@ use borrow.Author.Rules.{rules}
 use Rattle.wiring.proofs.set_or_join.Statement.{statement}
 use Rattle.wiring.proofs.set_or_join.Tie as tie
 
-make-requires : tie.Need-make-requires
+make-requires : tie.Need-make-m-requires
 make-requires c κs = (search (label_room, rules), (search rules, (search (cell_below, rules), search rules)))
 
 pub set_or_join_spec : {M : Type 1} → statement M

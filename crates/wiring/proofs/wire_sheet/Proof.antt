@@ -4,7 +4,7 @@ use borrow.Author.Rules.{rules}
 use Rattle.wiring.proofs.wire_sheet.Statement.{statement}
 use Rattle.wiring.proofs.wire_sheet.Tie as tie
 
-wire-switches-requires : tie.Need-wire-switches-requires
+wire-switches-requires : tie.Need-wire_switches-requires
 wire-switches-requires c κs =
     let passed = c.before.before.before.before.before.before.before.before.before.before.pass-givens.ensures.0 in
     let started = c.before.before.before.before.before.put-starts.ensures in

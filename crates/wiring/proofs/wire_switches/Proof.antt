@@ -8,10 +8,10 @@ use borrow.Author.Rules.{rules}
 use Rattle.wiring.proofs.wire_switches.Statement.{statement}
 use Rattle.wiring.proofs.wire_switches.Tie as tie
 
-abbrev invariant-loop : tie.invariant-loop
+abbrev invariant-loop : tie.invariant-loop-k
 invariant-loop file parts references cells₀ links₀ out₀ newest₀ base count p switches n₀ k₀ cells links out newest n k = Joining file parts base references cells₀ out₀ count k cells links out n × (newest ≡ newest_of (records_in out base n))
 
-abbrev decreases-loop : tie.decreases-loop
+abbrev decreases-loop : tie.decreases-loop-k
 decreases-loop file parts references cells₀ links₀ out₀ newest₀ base count p switches n₀ k₀ cells links out newest n k = switches - k
 
 pub wire_switches_spec : {M : Type 1} → statement M

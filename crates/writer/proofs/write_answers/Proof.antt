@@ -9,10 +9,10 @@ use borrow.Author.Rules.{rules}
 use Rattle.writer.proofs.write_answers.Statement.{statement}
 use Rattle.writer.proofs.write_answers.Tie as tie
 
-abbrev invariant-loop : tie.invariant-loop
+abbrev invariant-loop : tie.invariant-loop-v
 invariant-loop cells n at out₀ v₀ out v = Entering single 2 n (answers_in (cells_in cells) n) (at + 2) out₀ out v
 
-abbrev decreases-loop : tie.decreases-loop
+abbrev decreases-loop : tie.decreases-loop-v
 decreases-loop cells n at out₀ v₀ out v = n - v
 
 pub write_answers_spec : {M : Type 1} → statement M

@@ -8,10 +8,10 @@ use borrow.Author.Rules.{rules}
 use Rattle.writer.proofs.write_steps.Statement.{statement}
 use Rattle.writer.proofs.write_steps.Tie as tie
 
-abbrev invariant-loop : tie.invariant-loop
+abbrev invariant-loop : tie.invariant-loop-k
 invariant-loop n at out₀ found k₀ out k = Entering step_entry 4 n (steps_in found n) (at + 2) out₀ out k
 
-abbrev decreases-loop : tie.decreases-loop
+abbrev decreases-loop : tie.decreases-loop-k
 decreases-loop n at out₀ found k₀ out k = n - k
 
 pub write_steps_spec : {M : Type 1} → statement M

@@ -8,10 +8,10 @@ use borrow.Author.Rules.{rules}
 use Rattle.writer.proofs.write_variables.Statement.{statement}
 use Rattle.writer.proofs.write_variables.Tie as tie
 
-abbrev invariant-loop : tie.invariant-loop
+abbrev invariant-loop : tie.invariant-loop-k
 invariant-loop file parts out₀ count k₀ out k = Entering single 2 count (network_of file).variables 2 out₀ out k
 
-abbrev decreases-loop : tie.decreases-loop
+abbrev decreases-loop : tie.decreases-loop-k
 decreases-loop file parts out₀ count k₀ out k = count - k
 
 pub write_variables_spec : {M : Type 1} → statement M
