@@ -2,7 +2,7 @@
 use Rattle.std.specs.Prelude.{◌≡◌, Bool, true, not, cond, ◌||◌, List, [], ◌∷◌, ◌++◌, ℕ, suc, ◌-◌, ◌≤◌, ◌<◌, leb, ltb, get_or, take, drop}
 use Rattle.std.proofs.Math.Path.{refl, sym}
 use Rattle.std.proofs.Common.{ap, ◌∙◌, ⊎_elim, take-append-drop, take-suc, length-take-le}
-use Rattle.std.proofs.Math.Bool.{false, not_not}
+use Rattle.std.proofs.Math.Bool.{false, not-not}
 use Rattle.std.proofs.lemmas.Bool.{false≢true}
 use native.Mathlib.Omega.{arith}
 use borrow.Author.Tests.{eqb-true, ltb-true, ltb-false}
@@ -127,7 +127,7 @@ module _ (setting : List ℕ) (p : ℕ) (sized : length setting ≡ p) where
         (λ _. by_choice (Is (not (value a))) (eqb a constant_true) _ _
         (λ t. rw (eqb-true a constant_true t, worth_true records) (worth_old records constant_false (omega arith) ∙ worth_false records))
         (λ _. by_choice (Is (not (value a))) (eqb (named p a records).kind kind_not) _ _
-        (λ t. rw (named_not a h t, not_not) (worth_old records (named p a records).first (named_first p records orderly a h)))
+        (λ t. rw (named_not a h t, not-not) (worth_old records (named p a records).first (named_first p records orderly a h)))
         (λ _. is_entered (record { kind = kind_not; first = a; second = 0 }) ∙ operate_not kind_not refl _ _)))
 
     -- The constant that decides is there, and what it and the other are worth.

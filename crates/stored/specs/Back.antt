@@ -1,6 +1,6 @@
 -- A section that was written is read back.
 use Rattle.std.specs.Prelude.{◌≡◌, ℕ, suc, ◌+◌, ◌*◌}
-use Rattle.std.proofs.Math.Path.{refl}
+use Rattle.std.proofs.Math.Path.{refl, sym, subst}
 use mathlib.Core.List.{List, [], ◌∷◌, ◌++◌, flat_map, append_assoc}
 use Rattle.std.proofs.Common.{arith, length-append}
 use Rattle.std.proofs.Math.ListN.{length}
@@ -42,7 +42,9 @@ module _ {A : Type 0} (entry : A → List ℕ) (read : List ℕ → ℕ → A) (
         let at : 2 * length (front ++ entry x) ≡ 2 * length front + 2 * numbers =
         rw (length-append front (entry x), is.long x) (omega arith) in
         let below = entries_back (front ++ entry x) rest tail xs in
-        rw e (λ i. is.back front more tail x i ∷ (rw (f, at) at below) i)
+        let P : List ℕ → Type 0 =
+        λ ys. entries_of (read (written (front ++ ys) tail)) (2 * numbers) (2 * length front) (length (x ∷ xs)) ≡ x ∷ xs in
+        subst P (sym e) (λ i. is.back front more tail x i ∷ (rw (f, at) at below) i)
 
     -- A section after some numbers, with its count at this place.
     module _ (s front rest tail : List ℕ) (xs : List A) (e : s ≡ written (front ++ (section entry xs ++ rest)) tail) (at : ℕ)
