@@ -87,13 +87,13 @@ module _ (s : List ℕ) (parts : Parts) (laid : Laid s parts) (whole : List ℕ)
     (rest : Rest whole at before (lines vertex_line i (drop i (stored_of s).answers)) m mid) where
   pub vertex_fits : i < parts.answers → m + length (vertex_line i (word_at s (parts.answers_at + 2 + 2 * i))) ≤ length mid
   unfolding stored_of
-  vertex_fits more = line_fits vertex_line word_at vertex_size s i i laid.answers_at laid.answers rest more
+  vertex_fits more = line_fits vertex_line word_at vertex_size s i i laid.answers_at_lem laid.answers rest more
 
   pub vertex_more : i < parts.answers → (next : List ℕ) (r : ℕ) → Puts (vertex_line i (word_at s (parts.answers_at + 2 + 2 * i))) m mid next r
       → Rest whole at before (lines vertex_line (i + 1) (drop (i + 1) (stored_of s).answers)) r next
   unfolding stored_of
-  vertex_more more next r q = line_more vertex_line word_at vertex_size s i i laid.answers_at laid.answers rest more q
+  vertex_more more next r q = line_more vertex_line word_at vertex_size s i i laid.answers_at_lem laid.answers rest more q
 
   pub vertices_done : parts.answers ≤ i → Puts whole at before mid m
   unfolding stored_of
-  vertices_done h = line_done vertex_line word_at vertex_size s i i laid.answers_at laid.answers rest h
+  vertices_done h = line_done vertex_line word_at vertex_size s i i laid.answers_at_lem laid.answers rest h

@@ -4,7 +4,7 @@ use borrow.Author.Rules.{rules}
 use Rattle.analyse.proofs.fill.Statement.{statement}
 use Rattle.analyse.proofs.fill.Tie as tie
 
-solved-requires : tie.Need-solved-requires
+solved-requires : tie.Need-solved-count-requires
 solved-requires c κs = (search rules, (search rules, (search rules, search (fill_table, rules))))
 
 finish-requires : tie.Need-finish-requires

@@ -4,7 +4,7 @@ use borrow.Author.Rules.{rules}
 use Rattle.analyse.proofs.solved.Statement.{statement}
 use Rattle.analyse.proofs.solved.Tie as tie
 
-wire-sheet-requires : tie.Need-wire-sheet-requires
+wire-sheet-requires : tie.Need-wire_sheet-wired-requires
 wire-sheet-requires c κs = (search rules, (search rules, (search rules, (search (wiring_table, rules), search rules))))
 
 pub solved_spec : {M : Type 1} → statement M

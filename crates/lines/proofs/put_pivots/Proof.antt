@@ -9,7 +9,7 @@ use borrow.Author.Rules.{rules}
 use Rattle.lines.proofs.put_pivots.Statement.{statement}
 use Rattle.lines.proofs.put_pivots.Tie as tie
 
-abbrev invariant-loop : tie.invariant-loop
+abbrev invariant-loop : tie.invariant-loop-i
 invariant-loop out₀ at result parts next₀ i₀ out next i =
     Rest
     (lines pivot_line 0 (stored_of result).order)
@@ -19,7 +19,7 @@ invariant-loop out₀ at result parts next₀ i₀ out next i =
     next
     out
 
-abbrev decreases-loop : tie.decreases-loop
+abbrev decreases-loop : tie.decreases-loop-i
 decreases-loop out₀ at result parts next₀ i₀ out next i = parts.pivots - i
 
 pub put_pivots_spec : {M : Type 1} → statement M

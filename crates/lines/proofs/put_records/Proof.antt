@@ -10,7 +10,7 @@ use borrow.Author.Rules.{rules}
 use Rattle.lines.proofs.put_records.Statement.{statement}
 use Rattle.lines.proofs.put_records.Tie as tie
 
-abbrev invariant-loop : tie.invariant-loop
+abbrev invariant-loop : tie.invariant-loop-i
 invariant-loop out₀ at result parts base next₀ i₀ out next i =
     Rest
     (lines record_line (formula parts.variables 0) (stored_of result).records)
@@ -20,7 +20,7 @@ invariant-loop out₀ at result parts base next₀ i₀ out next i =
     next
     out
 
-abbrev decreases-loop : tie.decreases-loop
+abbrev decreases-loop : tie.decreases-loop-i
 decreases-loop out₀ at result parts base next₀ i₀ out next i = parts.records - i
 
 pub put_records_spec : {M : Type 1} → statement M

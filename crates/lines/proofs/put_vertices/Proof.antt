@@ -9,7 +9,7 @@ use borrow.Author.Rules.{rules}
 use Rattle.lines.proofs.put_vertices.Statement.{statement}
 use Rattle.lines.proofs.put_vertices.Tie as tie
 
-abbrev invariant-loop : tie.invariant-loop
+abbrev invariant-loop : tie.invariant-loop-v
 invariant-loop out₀ at result parts next₀ v₀ out next v =
     Rest
     (lines vertex_line 0 (stored_of result).answers)
@@ -19,7 +19,7 @@ invariant-loop out₀ at result parts next₀ v₀ out next v =
     next
     out
 
-abbrev decreases-loop : tie.decreases-loop
+abbrev decreases-loop : tie.decreases-loop-v
 decreases-loop out₀ at result parts next₀ v₀ out next v = parts.answers - v
 
 pub put_vertices_spec : {M : Type 1} → statement M

@@ -6,8 +6,8 @@ use Rattle.wiring.proofs.wire_sheet.Tie as tie
 
 wire-switches-requires : tie.Need-wire_switches-requires
 wire-switches-requires c κs =
-    let passed = c.before.before.before.before.before.before.before.before.before.before.pass-givens.ensures.0 in
-    let started = c.before.before.before.before.before.put-starts.ensures in
+    let passed = c.before.before.before.before.before.before.before.before.before.before.pass_givens-count.ensures.0 in
+    let started = c.before.before.before.before.before.put_starts.ensures in
     (search rules, (passed_translates _ _ (search rules) _ _ _ _ _ passed, (search rules, (joins_ready _ _ (search rules) _ _ _ _ _ passed _ started (search rules), search rules))))
 
 pub wire_sheet_spec : {M : Type 1} → statement M
