@@ -211,6 +211,7 @@ same_lists (x ∷ xs) (y ∷ ys) e =
     ap₂ ◌∷◌ (eqb-true x y h.0) (same_lists xs ys h.1)
 
 row_holds : (rows : List (List ℕ × List ℕ)) → holds rows ≡ true → {row : List ℕ × List ℕ} → Memᴰ row rows → row.0 ≡ row.1
+row_holds [] e {row = row} m = elim m [ ]
 row_holds (r ∷ rows) e (Memᴰ.head q) = rw q (same_lists r.0 r.1 (both_true (same r.0 r.1) (holds rows) e).0)
 row_holds (r ∷ rows) e (Memᴰ.tail m) = row_holds rows (both_true (same r.0 r.1) (holds rows) e).1 m
 

@@ -27,6 +27,7 @@ ring_built = (built_iff 4 (links_of ring) (symmetric_links ring)).1 few
     few s (Memᴰ.tail (Memᴰ.head e)) = omega (arith, ap (λ (x : Step). x.degree) e)
     few s (Memᴰ.tail (Memᴰ.tail (Memᴰ.head e))) = omega (arith, ap (λ (x : Step). x.degree) e)
     few s (Memᴰ.tail (Memᴰ.tail (Memᴰ.tail (Memᴰ.head e)))) = omega (arith, ap (λ (x : Step). x.degree) e)
+    few s (Memᴰ.tail (Memᴰ.tail (Memᴰ.tail (Memᴰ.tail m)))) = elim m [ ]
 
 -- The first pivot would have three neighbours.
 pub four_not_built : Built all_linked (vertices 4) → ⊥
