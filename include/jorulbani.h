@@ -1,7 +1,7 @@
 /*
  * Jorulbani: a proved analyser of relay wiring, for C (C99 or later) and C++.
  *
- * The functions are in target/staticlib/libexports.a, made by `rt staticlib exports`: x86-64 code for Linux, position-independent. It
+ * The functions are in target/staticlib/libexports.a, made by `tools/build`: x86-64 code for Linux, position-independent. It
  * wants memcpy and memset of the C library and nothing else, keeps nothing between calls, and may be called from several threads at
  * once.
  *

@@ -13,7 +13,7 @@ fn main() {
     println!("cargo:rerun-if-changed={}", archive.display());
     if !archive.is_file() {
         panic!(
-            "no {}: make it with `rt staticlib exports`",
+            "no {}: make it with `tools/build`",
             archive.display()
         );
     }
