@@ -4,11 +4,12 @@ use Rattle.std.proofs.Common.{arith}
 use Rattle.analysis.specs.Result.{eliminated, section, single}
 use Rattle.form.specs.Numbers.{put_numbers}
 use Rattle.form.specs.Writing.{numbers_length}
-use Rattle.formula.specs.MakeLaws.{orderly_none}
+use Rattle.formula.proofs.MakeLaws.{orderly_none}
 use Rattle.network.specs.Layout.{Sound}
 use Rattle.network.specs.Network.{edition, entries_of, network_of}
 use Rattle.network.specs.declared.Sections.{Sections}
-use Rattle.plan.specs.Measure.{operations_of, room_in, edition_most}
+use Rattle.plan.specs.Measure.{operations_of, room_in}
+use Rattle.plan.proofs.Measure.{edition_most}
 use Rattle.plan.specs.Plans.{plan_in}
 use Rattle.plan.specs.declared.Plan.{Plan}
 use Rattle.records.specs.Bytes.{records_in}

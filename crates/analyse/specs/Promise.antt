@@ -25,7 +25,7 @@ use Rattle.reader.specs.declared.Checked.{Checked}
 use Rattle.reader.specs.declared.Checked.TheVariants as checks
 use Rattle.stored.specs.Figures.{Figures, result_figures}
 use Rattle.stored.specs.Stored.{stored_of}
-use Rattle.stored.specs.StoredLaws.{stored_back}
+use Rattle.stored.proofs.StoredLaws.{stored_back}
 use Rattle.stored.specs.Truths.{Truths, result_truths}
 use Rattle.writer.specs.Whole.{Whole}
 use Rattle.analyse.specs.Filled.{Fillable}

@@ -12,7 +12,8 @@ use Rattle.network.specs.Places.{network_placed}
 use Rattle.network.specs.Ranges.{in_range}
 use Rattle.links.specs.Switches.{joins_of}
 use Rattle.network.specs.Layout.{sections_of}
-use Rattle.plan.specs.Measure.{work_in, operations, room_for, room_fault, edition_most}
+use Rattle.plan.specs.Measure.{work_in, operations, room_for, room_fault}
+use Rattle.plan.proofs.Measure.{edition_most}
 use Rattle.plan.specs.Plans.{plan_for, plan_in}
 use Rattle.analysis.specs.Analysis.{analysis_fault}
 

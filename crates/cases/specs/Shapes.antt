@@ -3,7 +3,7 @@ use Rattle.std.specs.Prelude.{refl, ◌≤◌}
 use Rattle.std.proofs.Common.{ap, arith}
 use mathlib.Core.List.{Memᴰ}
 use Rattle.costs.specs.Built.{Built, nothing, alone, branch, across}
-use Rattle.costs.specs.SeriesParallel.{built_few, built_iff}
+use Rattle.costs.proofs.SeriesParallel.{built_few, built_iff}
 use Rattle.links.specs.Links.{Step, order, steps}
 use Rattle.links.specs.Lists.{vertices}
 use Rattle.links.specs.Switches.{link, links_from, links_of}

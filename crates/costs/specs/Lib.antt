@@ -3,4 +3,3 @@ pub mod Bounds
 pub mod Built
 pub mod Before
 pub mod Narrow
-pub mod SeriesParallel

@@ -21,9 +21,10 @@ use Rattle.form.specs.declared.Reply.{Reply}
 use Rattle.form.specs.References.{kind_not, constant_true, formula}
 use Rattle.form.specs.declared.Record.{Record}
 use Rattle.formula.specs.Make.{none, same, index_of, named, old, holds, absorbed, make}
-use Rattle.formula.specs.MakeLaws.{Orderly, absorbs}
+use Rattle.formula.specs.MakeLaws.{Orderly}
+use Rattle.formula.proofs.MakeLaws.{absorbs}
 use Rattle.formula.specs.Search.{Distinct, larger}
-use Rattle.formula.specs.SearchLaws.{distinct, found_at, none_before}
+use Rattle.formula.proofs.SearchLaws.{distinct, found_at, none_before}
 use Rattle.links.specs.Links.{Graph, Step, order, steps}
 use Rattle.links.specs.Lists.{vertices}
 use Rattle.links.specs.Switches.{links_of, joins_of}

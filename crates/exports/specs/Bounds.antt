@@ -18,7 +18,7 @@ use Rattle.network.specs.Lists.{variables_length, starts_length}
 use Rattle.network.specs.Network.{edition, network_of}
 use Rattle.network.specs.Places.{network_placed}
 use Rattle.network.specs.Ranges.{in_range}
-use Rattle.stored.specs.Lengths.{result_within}
+use Rattle.stored.proofs.Lengths.{result_within}
 use Rattle.exports.specs.Codes.{upper, Narrow}
 
 -- An answer whose verdict is placed, and that gives little.

@@ -1,7 +1,6 @@
 pub mod Make
 pub mod MakeLaws
 pub mod Search
-pub mod SearchLaws
 pub mod Givens
 pub mod GivenLaws
 pub mod Worth

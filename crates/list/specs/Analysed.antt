@@ -17,9 +17,9 @@ use Rattle.network.specs.Layout.{Sound}
 use Rattle.network.specs.Lists.{switches_length}
 use Rattle.network.specs.Network.{edition, network_of}
 use Rattle.network.specs.declared.Sections.{Sections}
-use Rattle.stored.specs.Lengths.{result_end_lem, result_three}
+use Rattle.stored.proofs.Lengths.{result_end_lem, result_three}
 use Rattle.stored.specs.Stored.{stored_of}
-use Rattle.stored.specs.StoredLaws.{stored_back}
+use Rattle.stored.proofs.StoredLaws.{stored_back}
 use Rattle.text.specs.Puts.{Puts}
 use Rattle.list.specs.LineLengths.{Short}
 use Rattle.list.specs.Lengths.{lines_fit, listing_fits}

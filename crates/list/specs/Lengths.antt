@@ -11,7 +11,7 @@ use Rattle.formula.specs.Make.{none}
 use Rattle.formula.specs.MakeLaws.{Orderly}
 use Rattle.links.specs.ListLaws.{vertex_at, vertices_long}
 use Rattle.links.specs.Links.{Step}
-use Rattle.meaning.specs.Answers.{eliminated_standing}
+use Rattle.meaning.proofs.Answers.{eliminated_standing}
 use Rattle.meaning.specs.Ranged.{layout_ranged}
 use Rattle.network.specs.Faults.{network_fault}
 use Rattle.network.specs.Layout.{sections_of}

@@ -6,5 +6,3 @@ pub mod Passed
 pub mod System
 pub mod Labels
 pub mod Switches
-pub mod Wired
-pub mod Answers

@@ -12,8 +12,9 @@ use Rattle.laws.specs.Tests.{both_true, either_true, by_choice}
 use Rattle.form.specs.References.{kind_or, kind_not, constant_false, constant_true, formula}
 use Rattle.form.specs.declared.Record.{Record}
 use Rattle.formula.specs.Make.{Outcome, old, index_of, none, named, not_of, and_or, holds, absorbed, neutral, deciding, enter, negate, relate, combine, make}
-use Rattle.formula.specs.MakeLaws.{Orderly, named_first, and_or_kind, absorbed_is}
-use Rattle.formula.specs.SearchLaws.{found_is}
+use Rattle.formula.specs.MakeLaws.{Orderly}
+use Rattle.formula.proofs.MakeLaws.{named_first, and_or_kind, absorbed_is}
+use Rattle.formula.proofs.SearchLaws.{found_is}
 use Rattle.formula.specs.Worth.{operate, leaves, evaluate, worth}
 use Rattle.formula.specs.WorthLaws.{operate_not, operate_neutral, operate_deciding, operate_opposite, operate_same, operate_turned, operate_again, operate_absorbed}
 use Rattle.formula.specs.WorthLaws.{value_next, leaves_length, evaluate_length, evaluate_append, evaluate_kept}

@@ -12,7 +12,8 @@ use Rattle.form.specs.declared.Record.{Record}
 use Rattle.formula.specs.GivenLaws.{translate_take}
 use Rattle.formula.specs.Givens.{Passed, unpassed, translate, pass_one, pass}
 use Rattle.formula.specs.Make.{Outcome, none, make}
-use Rattle.formula.specs.MakeLaws.{Orderly, Keeps, orderly_none, keeps_make}
+use Rattle.formula.specs.MakeLaws.{Orderly, Keeps}
+use Rattle.formula.proofs.MakeLaws.{orderly_none, keeps_make}
 use Rattle.formula.specs.Worth.{worth}
 use Rattle.network.specs.Layout.{GivenIn}
 use Rattle.network.specs.Network.{Network}

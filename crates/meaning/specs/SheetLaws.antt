@@ -7,7 +7,8 @@ use Rattle.laws.specs.Tests.{by_test, by_choice}
 use Rattle.form.specs.References.{kind_and, kind_or, formula}
 use Rattle.form.specs.declared.Record.{Record}
 use Rattle.formula.specs.Make.{Outcome, make}
-use Rattle.formula.specs.MakeLaws.{Orderly, Keeps, keeps_make}
+use Rattle.formula.specs.MakeLaws.{Orderly, Keeps}
+use Rattle.formula.proofs.MakeLaws.{keeps_make}
 use Rattle.formula.specs.Worth.{worth}
 use Rattle.formula.specs.WorthLaws.{operate_and, operate_or}
 use Rattle.sheet.specs.Asks.{same_cell, work}

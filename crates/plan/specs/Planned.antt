@@ -13,8 +13,8 @@ use Rattle.links.specs.Links.{Graph, neighbours, degree, gone, pivot, order_of, 
 use Rattle.links.specs.ListLaws.{without_length, up_to_length}
 use Rattle.links.specs.OrderLaws.{order_more}
 use Rattle.links.specs.Switches.{no_links, links_from, joins_from, links_of, joins_of}
-use Rattle.network.specs.Network.{side, edition, network_of}
-use Rattle.network.specs.Layout.{Layout, Within}
+use Rattle.network.specs.Network.{side, network_of}
+use Rattle.network.specs.Layout.{Layout}
 use Rattle.network.specs.Lists.{starts_length}
 use Rattle.network.specs.declared.Sections.{Sections}
 use Rattle.rows.specs.Row.{vertices_in, excluding, all_of, all_few, vertices_all, vertices_excluding, vertices_up, excluding_most}
@@ -24,7 +24,6 @@ use Rattle.sheet.specs.Asks.{work}
 use Rattle.plan.specs.declared.Plan.{Plan}
 use Rattle.plan.specs.declared.Stepped.{Stepped}
 use Rattle.plan.specs.declared.Taken.{Taken}
-use Rattle.plan.specs.Measure.{Bounded, plan_bounded}
 use Rattle.plan.specs.Wire.{Wired}
 use Rattle.plan.specs.Plans.{degrees_of, plan_for, plan_in}
 use Rattle.plan.specs.Rows.{Writing, writing_none, writing_more, writing_done}
@@ -155,6 +154,3 @@ module _ (s : List ℕ) (parts : Sections) (layout : Layout s parts) (start link
       let g = w.graph ∙ ap (λ (x : Graph). links_from x (network_of s).switches) z in
       let j = w.joins ∙ ap (λ (x : Graph). joins_from x (network_of s).switches) z in
       rw (starts_length layout, ← g, ← j) p
-
-  pub plan_few : Within edition parts → Bounded edition r.joins r.work
-  plan_few within = plan_bounded edition s parts layout within r plan_made

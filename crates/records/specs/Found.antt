@@ -15,7 +15,7 @@ use Rattle.records.specs.Gives.{Room}
 use Rattle.records.specs.Newest.{bucket_of, newest_of, newest_most, newest_after}
 use Rattle.formula.specs.Make.{same, index_of, named, none}
 use Rattle.formula.specs.Search.{larger, place_after}
-use Rattle.formula.specs.SearchLaws.{same_is, distinct, found_at, found_none, none_before}
+use Rattle.formula.proofs.SearchLaws.{same_is, distinct, found_at, found_none, none_before}
 
 -- Two records are compared field by field, the second argument first.
 module _ (x y : Record) where

@@ -6,7 +6,8 @@ use Rattle.std.proofs.Math.ListN.{length-append}
 use Rattle.form.specs.References.{kind_and, kind_or, formula}
 use Rattle.form.specs.declared.Record.{Record}
 use Rattle.formula.specs.Make.{old, make}
-use Rattle.formula.specs.MakeLaws.{Orderly, Keeps, keeps_old, keeps_make}
+use Rattle.formula.specs.MakeLaws.{Orderly, Keeps}
+use Rattle.formula.proofs.MakeLaws.{keeps_old, keeps_make}
 use Rattle.sheet.specs.declared.Ask.{Ask}
 use Rattle.sheet.specs.Perform.{Sheet, put, and_then, product, asked, perform}
 

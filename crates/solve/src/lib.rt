@@ -215,7 +215,7 @@ fn pass(
     requires n_le_side { (n ≤ side) × (pivot < side) × (length links.old ≡ side) }
     requires newest_value { newest.old ≡ newest_of (records_in out.old base count) }
     ensures ran { Ran p base (forward_in links.old near n pivot) cells.old out.old count cells.new out.new result }
-    ensures links_after { links.new ≡ eliminated pivot links.old }
+    ensures links_value { links.new ≡ eliminated pivot links.old }
     ensures newest_after { newest.new ≡ newest_of (records_in out.new base result) }
 {
     let made = forward(cells, out, newest, base, p, count, links, near, n, pivot);
@@ -241,7 +241,7 @@ pub fn eliminate_from(
     requires level { Level links.old order.now n k }
     requires newest_value { newest.old ≡ newest_of (records_in out.old base count) }
     ensures ran { Ran p base (plan_from links.old rest order.now n k) cells.old out.old count cells.new out.new result }
-    ensures links_after { links.new ≡ links_after (pivots_from order.now n k) links.old }
+    ensures links_value { links.new ≡ links_after (pivots_from order.now n k) links.old }
     ensures newest_after { newest.new ≡ newest_of (records_in out.new base result) }
 {
     if k == n {

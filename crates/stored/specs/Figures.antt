@@ -6,7 +6,7 @@ use Rattle.analysis.specs.Result.{Stored, result_in}
 use Rattle.costs.specs.Bounds.{work_cubic}
 use Rattle.costs.specs.Built.{Built}
 use Rattle.costs.specs.Closed.{costs, work_closed}
-use Rattle.costs.specs.SeriesParallel.{built_iff, built_work}
+use Rattle.costs.proofs.SeriesParallel.{built_iff, built_work}
 use Rattle.elimination.specs.Plan.{work_of}
 use Rattle.formula.specs.MakeLaws.{Orderly}
 use Rattle.links.specs.Lists.{vertices}
@@ -14,7 +14,7 @@ use Rattle.links.specs.Links.{Graph, Step, order, steps}
 use Rattle.links.specs.ListLaws.{up_to_ascending}
 use Rattle.links.specs.Switches.{links_of, joins_of}
 use Rattle.links.specs.Symmetry.{symmetric_links}
-use Rattle.meaning.specs.Answers.{eliminated_standing}
+use Rattle.meaning.proofs.Answers.{eliminated_standing}
 use Rattle.meaning.specs.Ranged.{Ranged}
 use Rattle.network.specs.Network.{Network}
 use Rattle.stored.specs.Stored.{givens_figure, joins_figure, work_figure}

@@ -7,7 +7,7 @@ use Rattle.analysis.specs.Result.{eliminated, Stored, result_in}
 use Rattle.formula.specs.Worth.{worth}
 use Rattle.links.specs.Lists.{vertices}
 use Rattle.links.specs.ListLaws.{up_to_bounds, vertex_at, vertices_long}
-use Rattle.meaning.specs.Answers.{answer_leads, answer_right}
+use Rattle.meaning.proofs.Answers.{answer_leads, answer_right}
 use Rattle.meaning.specs.Ranged.{Ranged}
 use Rattle.meaning.specs.Sheets.{worth_of}
 use Rattle.meaning.specs.System.{system_of}

@@ -6,5 +6,3 @@ pub mod CarryLaws
 pub mod Past
 pub mod Writes
 pub mod Forward
-pub mod Backward
-pub mod Theorem

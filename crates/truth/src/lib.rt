@@ -1,3 +1,3 @@
-// What an elimination answers, on any carrier: Theorem 4. (Definitions and laws in specs/.)
+// What an elimination answers, on any carrier: Theorem 4. (Definitions in specs/, laws there and in proofs/.)
 
 #![tactic(auto)]

@@ -17,7 +17,7 @@ use Rattle.network.specs.Network.{Network, edition, network_of}
 use Rattle.network.specs.declared.Sections.{Sections}
 use Rattle.plan.specs.declared.Plan.{Plan}
 use Rattle.plan.specs.Plans.{degrees_of, plan_in}
-use Rattle.plan.specs.Measure.{edition_most}
+use Rattle.plan.proofs.Measure.{edition_most}
 use Rattle.plan.specs.PlanLaws.{order_at_lem, degree_at, order_inside}
 use Rattle.writer.specs.Last.{step_at, steps_in, Fits}
 use Rattle.writer.specs.Lengths.{steps_long}

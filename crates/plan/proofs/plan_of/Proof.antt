@@ -1,5 +1,6 @@
 -- `plan::plan_of` meets its contract: the links, and then the elimination.
-use Rattle.plan.specs.Planned.{plan_made, plan_few}
+use Rattle.plan.specs.Planned.{plan_made}
+use Rattle.plan.proofs.Planned.{plan_few}
 use borrow.Author.Rules.{rules}
 use Rattle.plan.proofs.plan_of.Statement.{statement}
 use Rattle.plan.proofs.plan_of.Tie as tie

@@ -1,0 +1,4 @@
+pub mod System
+pub mod Wired
+pub mod Answers
+pub mod Switches
