@@ -2,7 +2,8 @@
 
 #![tactic(auto)]
 
-ghost use Rattle.std.specs.Prelude.{◌≤◌, length, IfOk};
+ghost use Rattle.std.specs.Prelude.{◌<◌, ◌≤◌, length, take, IfOk};
+ghost use Rattle.std.specs.Io.KnownBytes.{Consumes, IsAtEnd};
 
 use list::LISTING_ROOM;
 use std::io::{self, Read, Write};
@@ -10,15 +11,17 @@ use std::io::{self, Read, Write};
 // A byte more than the longest accepted file, so that a longer one is refused.
 const MOST: usize = 6657;
 
-// Reads until the buffer is full or the input ends; gives how many bytes it has read.
+// Reads the bytes that come next, until the buffer is full or the input ends; gives how many there are.
 fn read_full<R: Read>(input: &mut R, buf: &mut [u8]) -> io::Result<usize>
-    ensures { IfOk result (λ n. n ≤ length buf.new) }
+    ensures within { IfOk result (λ n. n ≤ length buf.new) }
+    ensures bytes { IfOk result (λ n. Consumes (R.remaining input.old) (R.remaining input.new) (take n buf.new)) }
+    ensures end { IfOk result (λ n. n < length buf.new → IsAtEnd (R.remaining input.new)) }
 {
     let mut done = 0;
     while done < buf.len() {
         let n = input.read(&mut buf[done..])?;
         if n == 0 {
-            break;
+            return Ok(done);
         }
         done += n;
     }
