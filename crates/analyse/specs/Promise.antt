@@ -1,13 +1,11 @@
 -- What `analyse` promises, and that each way out keeps it.
-use Rattle.std.specs.Prelude.{◌≡◌, List, ℕ, ◌<◌, ◌≤◌, length, drop}
+use Rattle.std.specs.Prelude.{◌≡◌, List, ℕ, ◌<◌, ◌≤◌, length, drop, Result, Ok, Err}
 use Rattle.std.proofs.Common.{sym, ◌∙◌, arith}
 use borrow.Author.Tests.{lt-ltb, le-ltb}
 use Rattle.analysis.specs.Analysis.{analysis_fault, analysis, buffer_after, length_in}
 use Rattle.analysis.specs.Result.{result_in, result_of}
 use Rattle.form.specs.declared.Fault.{Fault}
 use Rattle.form.specs.declared.Fault.TheVariants as faults
-use Rattle.form.specs.declared.Reply.{Reply}
-use Rattle.form.specs.declared.Reply.TheVariants as replies
 use Rattle.form.specs.Refusals.{fine, fault, Answer, refused, accepted, number_of, place_of, reply_of}
 use Rattle.form.specs.Verdicts.{accepts}
 use Rattle.meaning.specs.Ranged.{layout_ranged}
@@ -21,8 +19,6 @@ use Rattle.plan.specs.Plans.{plan_in}
 use Rattle.plan.specs.declared.Plan.{Plan}
 use Rattle.reader.specs.Answers.{checked_of}
 use Rattle.reader.specs.Callers.{reads_refused}
-use Rattle.reader.specs.declared.Checked.{Checked}
-use Rattle.reader.specs.declared.Checked.TheVariants as checks
 use Rattle.stored.specs.Figures.{Figures, result_figures}
 use Rattle.stored.specs.Stored.{stored_of}
 use Rattle.stored.proofs.StoredLaws.{stored_back}
@@ -41,13 +37,13 @@ Told (refused number place) net after = Unit
 Told (accepted bytes) net after = Tells net after
 
 -- Its reply, each byte of the lent buffer afterwards, and what these bytes tell.
-pub record Promise (s before after : List ℕ) (r : Reply) : Type 0 where
+pub record Promise (s before after : List ℕ) (r : Result ℕ Fault) : Type 0 where
   pub reply : reply_of r ≡ length_in (analysis edition s (length before))
   pub bytes : after ≡ buffer_after (analysis edition s (length before)) before
   pub told : Told (analysis edition s (length before)) (network_of s) after
 
 -- An answered call's bytes tell it.
-pub told_answered : {s before after : List ℕ} {r : Reply} → Promise s before after r → (n : ℕ) → reply_of r ≡ accepted n → Tells (network_of s) after
+pub told_answered : {s before after : List ℕ} {r : Result ℕ Fault} → Promise s before after r → (n : ℕ) → reply_of r ≡ accepted n → Tells (network_of s) after
 told_answered {s} {before} {after} call n e = go (analysis edition s (length before)) (sym e ∙ call.reply) call.told
   where
     go : (a : Answer (List ℕ)) → accepted n ≡ length_in a → Told a (network_of s) after → Tells (network_of s) after
@@ -56,13 +52,13 @@ told_answered {s} {before} {after} call n e = go (analysis edition s (length bef
 
 module _ (s before : List ℕ) where
   -- A refusal writes nothing.
-  refusal : (f : Fault) → fault (number_of f) (place_of f) ≡ analysis_fault edition s (length before) → Promise s before before (replies.Refused f)
+  refusal : (f : Fault) → fault (number_of f) (place_of f) ≡ analysis_fault edition s (length before) → Promise s before before (Err f)
   unfolding analysis
   refusal f e = record { reply = rw (← e); bytes = rw (← e); told = rw (← e) tt }
 
   -- The file is refused.
-  pub analyse_unread : (r : Checked) (f : Fault) → r ≡ checks.Refused f → checked_of r ≡ network_answer edition s
-      → Promise s before before (replies.Refused f)
+  pub analyse_unread : (r : Result Sections Fault) (f : Fault) → r ≡ Err f → checked_of r ≡ network_answer edition s
+      → Promise s before before (Err f)
   unfolding analysis_fault
   analyse_unread r f e a = let v = reads_refused s r f e a in refusal f (rw (← v))
 
@@ -80,7 +76,7 @@ module _ (s before : List ℕ) where
 
     module _ (room : ℕ) (is : room ≡ room_in parts found) where
       -- The buffer is too small.
-      pub analyse_room : length before < room → Promise s before before (replies.Refused faults.ResultRoom)
+      pub analyse_room : length before < room → Promise s before before (Err faults.ResultRoom)
       unfolding analysis_fault room_fault
       analyse_room m =
           let w = room_is s parts (sound edition s parts a).layout found e in
@@ -97,7 +93,7 @@ module _ (s before : List ℕ) where
 
       -- It has been filled.
       pub analyse_done : room ≤ length before → (after : List ℕ) (n : ℕ) → Whole (network_of s) before after n
-          → Promise s before after (replies.Accepted n)
+          → Promise s before after (Ok n)
       unfolding analysis analysis_fault room_fault
       analyse_done m after n whole =
           let w = room_is s parts (sound edition s parts a).layout found e in

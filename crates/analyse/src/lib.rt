@@ -4,10 +4,11 @@
 
 ghost use Rattle.std.specs.Prelude.{◌≡◌, ◌+◌, replicate};
 ghost use Rattle.form.specs.Refusals.{accepted};
-ghost use Rattle.network.specs.Layout.{Sound, network_answer};
+ghost use Rattle.network.specs.Layout.{Within, network_answer};
 ghost use Rattle.network.specs.Network.{edition, network_of};
 ghost use Rattle.plan.specs.Measure.{operations_of};
 ghost use Rattle.plan.specs.Plans.{plan_in};
+ghost use Rattle.records.specs.Entered.{Empty};
 ghost use Rattle.records.specs.Grown.{Table};
 ghost use Rattle.sheet.specs.Cells.{cell_count};
 ghost use Rattle.writer.specs.Whole.{Whole};
@@ -15,81 +16,64 @@ ghost use Rattle.analyse.specs.Solved.{SolvedIn};
 ghost use Rattle.analyse.specs.Filled.{Fillable};
 ghost use Rattle.analyse.specs.Promise.{Promise};
 
-use form::{Fault, Reply};
-use network::{SIDE, Sections};
+use entries::Accepted;
+use form::Fault;
+use network::SIDE;
+use operations::Worksheet;
 use plan::Plan;
-use reader::Checked;
-use records::BUCKETS;
+use records::Records;
 use sheet::CELLS;
 
-// Wires an accepted file and carries its plan out, the records in place from `base` on; gives their number.
-fn solved(
-    file: &[u8],
-    parts: Sections,
-    found: Plan,
-    cells: &mut [u16; CELLS],
-    out: &mut [u8],
-    base: usize,
-) -> usize
-    requires sound { Sound edition file.now parts }
-    requires found_value { found ≡ plan_in (network_of file.now) }
-    requires cells_value { cells.old ≡ replicate cell_count 0 }
-    requires table { Table parts.variables base (parts.givens + operations_of found) 0 out.old }
-    ensures { SolvedIn file.now parts found base out.old cells.new out.new result }
+// Wires an accepted file and carries its plan out, the records in place.
+fn solved(net: &Accepted<'_>, found: Plan, sheet: &mut Worksheet, out: &mut [u8])
+    requires within { Within edition net.now.parts }
+    requires found_value { found ≡ plan_in (network_of net.now.file.now) }
+    requires cells_value { sheet.old.cells ≡ replicate cell_count 0 }
+    requires empty { Empty net.now.parts.variables sheet.old.records }
+    requires table { Table net.now.parts.variables sheet.old.records.base (net.now.parts.givens + operations_of found) 0 out.old }
+    ensures { SolvedIn net.now.file.now net.now.parts found sheet.old.records.base out.old sheet.new.cells out.new sheet.new.records.count }
 {
     let mut links = [0; SIDE];
-    let mut newest = [0; BUCKETS];
-    let wired = wiring::wire_sheet(file, parts, cells, &mut links, out, &mut newest, base);
-    let rest = rows::all(parts.vertices);
-    let order = found.order;
-    solve::eliminate_from(
-        cells,
-        out,
-        &mut newest,
-        base,
-        parts.variables,
-        wired,
-        &mut links,
-        rest,
-        &order,
-        parts.vertices,
-        0,
-    )
+    wiring::wire_sheet(net, sheet, &mut links, out);
+    let rest = rows::all(net.parts.vertices);
+    let order = found.order();
+    solve::eliminate_from(sheet, out, &mut links, rest, &order, net.parts.vertices, 0);
 }
 
 // Fills a buffer that has the room with the result of an accepted file; gives its length.
-fn fill(file: &[u8], parts: Sections, found: Plan, out: &mut [u8]) -> usize
-    requires { Fillable file.now parts found out.old }
-    ensures { Whole (network_of file.now) out.old out.new result }
+fn fill(net: &Accepted<'_>, found: Plan, out: &mut [u8]) -> usize
+    requires { Fillable net.now.file.now net.now.parts found out.old }
+    ensures { Whole (network_of net.now.file.now) out.old out.new result }
 {
-    writer::write_variables(file, parts, out);
-    let mut cells = [0; CELLS];
-    let base = 4 + 2 * parts.variables;
-    let count = solved(file, parts, found, &mut cells, out, base);
-    writer::finish(parts, found, &cells, count, out)
+    writer::write_variables(net, out);
+    let variables = net.parts.variables;
+    let mut sheet = Worksheet {
+        cells: [0; CELLS],
+        records: Records::empty(4 + 2 * variables, variables),
+    };
+    solved(net, found, &mut sheet, out);
+    writer::finish(net.parts, found, &sheet.cells, sheet.records.count, out)
 }
 
 // The analysis of an accepted file.
-fn answer(file: &[u8], parts: Sections, out: &mut [u8]) -> Reply
-    requires parts_value { accepted parts ≡ network_answer edition file.now }
-    requires sound { Sound edition file.now parts }
-    ensures { Promise file.now out.old out.new result }
+fn answer(net: &Accepted<'_>, out: &mut [u8]) -> Result<usize, Fault>
+    requires parts_value { accepted net.now.parts ≡ network_answer edition net.now.file.now }
+    requires within { Within edition net.now.parts }
+    ensures { Promise net.now.file.now out.old out.new result }
 {
-    let found = plan::plan_of(file, parts);
-    let room = plan::room_for(parts, found);
+    let found = plan::plan_of(net);
+    let room = plan::room_for(net.parts, found);
     if out.len() < room {
-        return Reply::Refused(Fault::ResultRoom);
+        return Err(Fault::ResultRoom);
     }
-    let length = fill(file, parts, found, out);
-    Reply::Accepted(length)
+    let length = fill(net, found, out);
+    Ok(length)
 }
 
 // Writes the result of a wiring file, and gives its length. A refusal leaves the buffer as it came.
-pub fn analyse(file: &[u8], out: &mut [u8]) -> Reply
+pub fn analyse(file: &[u8], out: &mut [u8]) -> Result<usize, Fault>
     ensures { Promise file.now out.old out.new result }
 {
-    match reader::check_network(file) {
-        Checked::Refused(f) => Reply::Refused(f),
-        Checked::Accepted(parts) => answer(file, parts, out),
-    }
+    let parts = reader::check_network(file)?;
+    answer(&Accepted { file, parts }, out)
 }

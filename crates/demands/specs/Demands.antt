@@ -1,6 +1,6 @@
 -- The three demands on the analyser, about every call of `analyse` and of `direct`, and what the requests say must hold. Each is derived in a line or two
 -- from where it is proved.
-use Rattle.std.specs.Prelude.{◌≡◌, ◌↔◌, true, false, ℕ, ◌+◌, ◌*◌, ◌<◌, ◌≤◌, eqb, length, get_or, take, drop}
+use Rattle.std.specs.Prelude.{◌≡◌, ◌↔◌, true, false, ℕ, ◌+◌, ◌*◌, ◌<◌, ◌≤◌, eqb, length, get_or, take, drop, Result}
 use Rattle.std.proofs.Math.Bool.{So}
 use mathlib.Core.List.{List, [], ◌∷◌, ◌++◌, Memᴰ}
 use Rattle.std.proofs.Common.{arith}
@@ -17,7 +17,7 @@ use Rattle.direct.specs.Unique as answered
 use Rattle.elimination.specs.Plan.{work_of}
 use Rattle.form.specs.Refusals.{fine, refused, accepted, reply_of}
 use Rattle.form.specs.Verdicts as verdicts
-use Rattle.form.specs.declared.Reply.{Reply}
+use Rattle.form.specs.declared.Fault.{Fault}
 use Rattle.form.specs.References.{kind_not, constant_true, formula}
 use Rattle.form.specs.declared.Record.{Record}
 use Rattle.formula.specs.Make.{none, same, index_of, named, old, holds, absorbed, make}
@@ -39,7 +39,7 @@ use Rattle.truth.specs.Systems.{Solution}
 use Rattle.demands.specs.Outcomes.{AnswersOrRefuses, result_or_refusal, answer_or_refusal}
 
 -- A call of `analyse`: the file s, the lent buffer before and after, and the reply r.
-module _ (s before after : List ℕ) (r : Reply) (call : analyse.Promise s before after r) where
+module _ (s before after : List ℕ) (r : Result ℕ Fault) (call : analyse.Promise s before after r) where
   -- DEMAND 1. Every byte string is analysed, or refused with the number and the place of its first fault and the buffer as it came, and never both.
   -- Ruled out: refusing everything, another cause or place, a byte written before a refusal or beyond the result.
   pub analysed_or_refused : let result = result_of (network_of s) in
@@ -157,20 +157,20 @@ module _ (s : List ℕ) (read : network_fault edition s ≡ fine) where
   room_within = room_most s read
 
 -- No reply has the number 8.
-pub eight_unused : (r : Reply) (place : ℕ) → reply_of r ≡ refused 8 place → ⊥
+pub eight_unused : (r : Result ℕ Fault) (place : ℕ) → reply_of r ≡ refused 8 place → ⊥
 eight_unused = verdicts.eight_unused
 
 -- A call of `direct` is answered by the path rule, a byte for each vertex, or refused in the same way, and never both (demands 1 and 2).
-pub direct_or_refused : (s setting before after : List ℕ) (r : Reply) → direct.Promise s setting before after r → let net = network_of s in
+pub direct_or_refused : (s setting before after : List ℕ) (r : Result ℕ Fault) → direct.Promise s setting before after r → let net = network_of s in
     AnswersOrRefuses (direct_fault edition s setting (length before)) r (length net.starts) (Answered net setting before after) before after
 unfolding direct_answer
 direct_or_refused s setting before after r call =
     answer_or_refusal (direct_fault edition s setting (length before)) r _ _ setting before after call.reply call.bytes
 
 -- The reply and every lent byte of a call are determined by what it was given (demand 1): two outcomes that are allowed coincide.
-pub analysed_one_way : (s before x y : List ℕ) (r q : Reply) → analyse.Promise s before x r → analyse.Promise s before y q → (r ≡ q) × (x ≡ y)
+pub analysed_one_way : (s before x y : List ℕ) (r q : Result ℕ Fault) → analyse.Promise s before x r → analyse.Promise s before y q → (r ≡ q) × (x ≡ y)
 analysed_one_way = analysed.unique
 
-pub direct_one_way : (s setting before x y : List ℕ) (r q : Reply)
+pub direct_one_way : (s setting before x y : List ℕ) (r q : Result ℕ Fault)
     → direct.Promise s setting before x r → direct.Promise s setting before y q → (r ≡ q) × (x ≡ y)
 direct_one_way = answered.unique

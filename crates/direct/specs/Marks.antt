@@ -1,7 +1,7 @@
--- Marks: a byte for each vertex, 1 where it is marked, that spread through closed contacts.
-use Rattle.std.specs.Prelude.{◌≡◌, refl, Bool, true, false, cond, not, ◌&&◌, List, [], ◌∷◌, ℕ, zero, suc, ◌+◌, ◌*◌, ◌<◌, ◌≤◌, eqb, set}
+-- Marks: a truth for each vertex, whether it is marked, that spread through closed contacts.
+use Rattle.std.specs.Prelude.{◌≡◌, Bool, true, false, cond, not, ◌&&◌, List, [], ◌∷◌, ℕ, zero, suc, ◌+◌, ◌*◌, ◌<◌, ◌≤◌, set}
 use Rattle.std.proofs.Math.Path.{sym}
-use Rattle.std.proofs.Common.{◌∙◌, add-one, eq-eqb, ne_eqb, drop-cons}
+use Rattle.std.proofs.Common.{◌∙◌, add-one, drop-cons}
 use native.Mathlib.Omega.{arith}
 use Rattle.std.proofs.Math.ListN.{length, get_or, drop}
 use Rattle.std.proofs.Math.Seq.{drop-length}
@@ -12,99 +12,65 @@ use Rattle.network.specs.Lists.{switches_length, switch_at_lem}
 use Rattle.network.specs.Network.{network_of}
 
 -- Vertex v is marked.
-unfoldable pub marked : List ℕ → ℕ → Bool
-marked marks v = eqb (get_or marks v 0) 1
+unfoldable pub marked : List Bool → ℕ → Bool
+marked marks v = get_or marks v false
 
 -- A contact from u to v with this label: it is closed, u is marked and v is not yet.
-unfoldable pub spreads : (ℕ → Bool) → ℕ → ℕ → ℕ → List ℕ → Bool
+unfoldable pub spreads : (ℕ → Bool) → ℕ → ℕ → ℕ → List Bool → Bool
 spreads value label u v marks = value label && (marked marks u && not (marked marks v))
 
 -- Then v is marked,
-unfoldable pub contact : (ℕ → Bool) → ℕ → ℕ → ℕ → List ℕ → List ℕ
-contact value label u v marks = cond (spreads value label u v marks) (set marks v 1) marks
+unfoldable pub contact : (ℕ → Bool) → ℕ → ℕ → ℕ → List Bool → List Bool
+contact value label u v marks = cond (spreads value label u v marks) (set marks v true) marks
 
 -- and that is one new mark.
-unfoldable pub contact_new : (ℕ → Bool) → ℕ → ℕ → ℕ → List ℕ → ℕ
+unfoldable pub contact_new : (ℕ → Bool) → ℕ → ℕ → ℕ → List Bool → ℕ
 contact_new value label u v marks = cond (spreads value label u v marks) 1 0
 
 -- A switch: the contact from its first end to its second, then the one back.
-unfoldable pub travel : (ℕ → Bool) → Switch → List ℕ → List ℕ
+unfoldable pub travel : (ℕ → Bool) → Switch → List Bool → List Bool
 travel value w marks = contact value w.back w.second w.first (contact value w.there w.first w.second marks)
 
 -- How many marks are new then.
-unfoldable pub travel_new : (ℕ → Bool) → Switch → List ℕ → ℕ
+unfoldable pub travel_new : (ℕ → Bool) → Switch → List Bool → ℕ
 travel_new value w marks =
     contact_new value w.there w.first w.second marks
     + contact_new value w.back w.second w.first (contact value w.there w.first w.second marks)
 
 -- A sweep: the switches in order.
-unfoldable pub sweep : (ℕ → Bool) → List Switch → List ℕ → List ℕ
+unfoldable pub sweep : (ℕ → Bool) → List Switch → List Bool → List Bool
 sweep value [] marks = marks
 sweep value (w ∷ ws) marks = sweep value ws (travel value w marks)
 
 -- How many marks are new then.
-unfoldable pub sweep_new : (ℕ → Bool) → List Switch → List ℕ → ℕ
+unfoldable pub sweep_new : (ℕ → Bool) → List Switch → List Bool → ℕ
 sweep_new value [] marks = 0
 sweep_new value (w ∷ ws) marks = travel_new value w marks + sweep_new value ws (travel value w marks)
 
 -- Sweeps, one after another.
-unfoldable pub sweeps : (ℕ → Bool) → List Switch → ℕ → List ℕ → List ℕ
+unfoldable pub sweeps : (ℕ → Bool) → List Switch → ℕ → List Bool → List Bool
 sweeps value ws zero marks = marks
 sweeps value ws (suc n) marks = sweep value ws (sweeps value ws n marks)
 
 -- What the program ensures of a contact: the marks afterwards, and how many are new;
-pub record Contacted (value : ℕ → Bool) (label u v : ℕ) (before after : List ℕ) (new : ℕ) : Type 0 where
+pub record Contacted (value : ℕ → Bool) (label u v : ℕ) (before after : List Bool) (new : ℕ) : Type 0 where
   pub marks : after ≡ contact value label u v before
   pub count : new ≡ contact_new value label u v before
   pub most : new ≤ 1
 
 -- the same of a switch,
-pub record Travelled (value : ℕ → Bool) (w : Switch) (before after : List ℕ) (new : ℕ) : Type 0 where
+pub record Travelled (value : ℕ → Bool) (w : Switch) (before after : List Bool) (new : ℕ) : Type 0 where
   pub marks : after ≡ travel value w before
   pub count : new ≡ travel_new value w before
   pub most : new ≤ 2
 
 -- and of a sweep.
-pub record Swept (value : ℕ → Bool) (ws : List Switch) (before after : List ℕ) (new : ℕ) : Type 0 where
+pub record Swept (value : ℕ → Bool) (ws : List Switch) (before after : List Bool) (new : ℕ) : Type 0 where
   pub marks : after ≡ sweep value ws before
   pub count : new ≡ sweep_new value ws before
 
-is_marked : (marks : List ℕ) (v : ℕ) → get_or marks v 0 ≡ 1 → marked marks v ≡ true
-unfolding marked
-is_marked marks v e = eq-eqb _ 1 e
-
-not_marked : (marks : List ℕ) (v : ℕ) → (get_or marks v 0 ≡ 1 → ⊥) → marked marks v ≡ false
-unfolding marked
-not_marked marks v e = ne_eqb _ 1 e
-
--- The ways out of `contact`.
-module _ (value : ℕ → Bool) (label u v : ℕ) (marks : List ℕ) where
-  pub contact_open : value label ≡ false → Contacted value label u v marks marks 0
-  unfolding contact contact_new spreads
-  contact_open e = record { marks = rw e; count = rw e; most = omega arith }
-
-  module _ (closed : value label ≡ true) where
-    pub contact_idle : (get_or marks u 0 ≡ 1 → ⊥) → Contacted value label u v marks marks 0
-    unfolding contact contact_new spreads
-    contact_idle e =
-        let f = not_marked marks u e in record { marks = rw (closed, f); count = rw (closed, f); most = omega arith }
-
-    pub contact_old : get_or marks u 0 ≡ 1 → get_or marks v 0 ≡ 1 → Contacted value label u v marks marks 0
-    unfolding contact contact_new spreads
-    contact_old e f =
-        let i = is_marked marks u e in
-        let j = is_marked marks v f in
-        record { marks = rw (closed, i, j); count = rw (closed, i, j); most = omega arith }
-
-    pub contact_new_lem : get_or marks u 0 ≡ 1 → (get_or marks v 0 ≡ 1 → ⊥) → Contacted value label u v marks (set marks v 1) 1
-    unfolding contact contact_new spreads
-    contact_new_lem e f =
-        let i = is_marked marks u e in
-        let j = not_marked marks v f in
-        record { marks = rw (closed, i, j); count = rw (closed, i, j); most = omega arith }
-
 -- Both directions of a switch.
-pub travelled : (value : ℕ → Bool) (w : Switch) (before between after : List ℕ) (there back : ℕ)
+pub travelled : (value : ℕ → Bool) (w : Switch) (before between after : List Bool) (there back : ℕ)
     → Contacted value w.there w.first w.second before between there
     → Contacted value w.back w.second w.first between after back
     → Travelled value w before after (there + back)
@@ -117,46 +83,43 @@ travelled value w before between after there back p q =
     }
 
 -- A sweep after k switches: the switches that are left give the whole.
-pub record Sweeping (value : ℕ → Bool) (ws : List Switch) (before marks : List ℕ) (k new : ℕ) : Type 0 where
+pub record Sweeping (value : ℕ → Bool) (ws : List Switch) (before marks : List Bool) (k new : ℕ) : Type 0 where
   pub within : k ≤ length ws
   pub left : sweep value (drop k ws) marks ≡ sweep value ws before
   pub count : new + sweep_new value (drop k ws) marks ≡ sweep_new value ws before
   pub most : new ≤ 2 * k
 
-module _ (value : ℕ → Bool) (s : List ℕ) (parts : Sections) (layout : Layout s parts) (before : List ℕ) where
-  pub sweeping_none : Sweeping value (network_of s).switches before before 0 0
-  sweeping_none = record { within = omega arith; left = refl; count = omega arith; most = omega arith }
+module _ (value : ℕ → Bool) (s : List ℕ) (parts : Sections) (layout : Layout s parts) (before marks : List Bool) (k new : ℕ)
+    (inv : Sweeping value (network_of s).switches before marks k new) where
+  pub sweeping_more :
+      k < parts.switches →
+      (w : Switch) →
+      SwitchRead s parts k w →
+      (after : List Bool) (r : ℕ) →
+      Travelled value w marks after r →
+      Sweeping value (network_of s).switches before after (k + 1) (new + r)
+  unfolding sweep sweep_new
+  sweeping_more h w read after r p =
+      let ws = (network_of s).switches in
+      let n = switches_length layout in
+      let e : get_or ws k w ≡ w = switch_at_lem layout k w h ∙ sym read.is in
+      let q : drop k ws ≡ w ∷ drop (suc k) ws = rw e at (drop-cons ws k w (omega arith)) in
+      let l = rw q at inv.left in
+      let m : new + (travel_new value w marks + sweep_new value (drop (suc k) ws) (travel value w marks)) ≡ sweep_new value ws before =
+      rw q at inv.count in
+      record {
+        within = omega arith;
+        left = rw (add-one, p.marks) l;
+        count = rw (add-one, p.marks) (omega (arith, p.count));
+        most = omega (arith, p.most, inv.most);
+      }
 
-  module _ (marks : List ℕ) (k new : ℕ) (inv : Sweeping value (network_of s).switches before marks k new) where
-    pub sweeping_more :
-        k < parts.switches →
-        (w : Switch) →
-        SwitchRead s parts k w →
-        (after : List ℕ) (r : ℕ) →
-        Travelled value w marks after r →
-        Sweeping value (network_of s).switches before after (k + 1) (new + r)
-    unfolding sweep sweep_new
-    sweeping_more h w read after r p =
-        let ws = (network_of s).switches in
-        let n = switches_length layout in
-        let e : get_or ws k w ≡ w = switch_at_lem layout k w h ∙ sym read.is in
-        let q : drop k ws ≡ w ∷ drop (suc k) ws = rw e at (drop-cons ws k w (omega arith)) in
-        let l = rw q at inv.left in
-        let m : new + (travel_new value w marks + sweep_new value (drop (suc k) ws) (travel value w marks)) ≡ sweep_new value ws before =
-        rw q at inv.count in
-        record {
-          within = omega arith;
-          left = rw (add-one, p.marks) l;
-          count = rw (add-one, p.marks) (omega (arith, p.count));
-          most = omega (arith, p.most, inv.most);
-        }
-
-    pub sweeping_all : parts.switches ≤ k → Swept value (network_of s).switches before marks new
-    unfolding sweep sweep_new
-    sweeping_all h =
-        let ws = (network_of s).switches in
-        let e : k ≡ length ws = omega (arith, switches_length layout, inv.within) in
-        record {
-          marks = rw (e, drop-length ws) at inv.left;
-          count = let i = rw (e, drop-length ws) at inv.count in omega arith;
-        }
+  pub sweeping_all : parts.switches ≤ k → Swept value (network_of s).switches before marks new
+  unfolding sweep sweep_new
+  sweeping_all h =
+      let ws = (network_of s).switches in
+      let e : k ≡ length ws = omega (arith, switches_length layout, inv.within) in
+      record {
+        marks = rw (e, drop-length ws) at inv.left;
+        count = let i = rw (e, drop-length ws) at inv.count in omega arith;
+      }

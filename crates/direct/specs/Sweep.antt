@@ -1,5 +1,5 @@
 -- Marks that a sweep adds nothing to are exactly what paths reach from the first marks.
-use Rattle.std.specs.Prelude.{◌≡◌, ◌≢◌, ◌⊎◌, Bool, false, cond, eqb, length, get_or, set}
+use Rattle.std.specs.Prelude.{◌≡◌, ◌≢◌, ◌⊎◌, Bool, true, false, cond, eqb, length, get_or, set}
 use Rattle.std.proofs.Math.Path.{refl, ap, sym}
 use Rattle.std.proofs.Common.{◌∙◌, inl, inr, length-set, get_or-set_other}
 use Rattle.std.proofs.Math.Logic.{⊎_elim}
@@ -24,27 +24,27 @@ abbrev pub Full : (ℕ → Bool) → List Switch → (ℕ → Type 0) → Type 0
 Full value ws P = (w : Switch) → Memᴰ w ws → (u v : ℕ) → Closed value w u v → P u → P v
 
 -- A mark that is set.
-marked_set : (marks : List ℕ) (u v : ℕ) → So (marked (set marks u 1) v) → (v ≡ u) ⊎ So (marked marks v)
+marked_set : (marks : List Bool) (u v : ℕ) → So (marked (set marks u true) v) → (v ≡ u) ⊎ So (marked marks v)
 unfolding marked
-marked_set marks u v h = by_same v u (λ e. inl e) (λ d. inr (rw (get_or-set_other marks u v 1 0 d) at h))
+marked_set marks u v h = by_same v u (λ e. inl e) (λ d. inr (rw (get_or-set_other marks u v true false d) at h))
 
-marked_other : (marks : List ℕ) (u v : ℕ) → v ≢ u → So (marked marks v) → So (marked (set marks u 1) v)
+marked_other : (marks : List Bool) (u v : ℕ) → v ≢ u → So (marked marks v) → So (marked (set marks u true) v)
 unfolding marked
-marked_other marks u v d h = rw (get_or-set_other marks u v 1 0 d) h
+marked_other marks u v d h = rw (get_or-set_other marks u v true false d) h
 
 -- How many are not marked.
-unfoldable pub unmarked : List ℕ → ℕ
+unfoldable pub unmarked : List Bool → ℕ
 unmarked [] = 0
-unmarked (x ∷ xs) = cond (eqb x 1) 0 1 + unmarked xs
+unmarked (x ∷ xs) = cond x 0 1 + unmarked xs
 
-unmarked_set : (marks : List ℕ) (v : ℕ) → v < length marks → eqb (get_or marks v 0) 1 ≡ false → unmarked (set marks v 1) + 1 ≡ unmarked marks
+unmarked_set : (marks : List Bool) (v : ℕ) → v < length marks → get_or marks v false ≡ false → unmarked (set marks v true) + 1 ≡ unmarked marks
 unfolding unmarked
 unmarked_set [] v h e = absurd (omega arith)
 unmarked_set (x ∷ xs) zero h e = rw e (omega arith)
 unmarked_set (x ∷ xs) (suc v) h e = omega (arith, unmarked_set xs v (omega arith) e)
 
 -- One contact.
-module _ (value : ℕ → Bool) (label a b : ℕ) (marks : List ℕ) where
+module _ (value : ℕ → Bool) (label a b : ℕ) (marks : List Bool) where
   spreads_parts : So (spreads value label a b marks) → So (value label) × (So (marked marks a) × (marked marks b ≡ false))
   unfolding spreads
   spreads_parts t = let p = both_true _ _ t in let q = both_true _ _ p.1 in (p.0, (q.0, not-true _ q.1))
@@ -64,7 +64,7 @@ module _ (value : ℕ → Bool) (label a b : ℕ) (marks : List ℕ) where
 
   contact_length : length (contact value label a b marks) ≡ length marks
   unfolding contact
-  contact_length = by_test (spreads value label a b marks) (λ t. rw t (length-set marks b 1)) (λ t. rw t)
+  contact_length = by_test (spreads value label a b marks) (λ t. rw t (length-set marks b true)) (λ t. rw t)
 
   contact_falls : b < length marks → unmarked (contact value label a b marks) + contact_new value label a b marks ≡ unmarked marks
   unfolding contact contact_new marked
@@ -81,7 +81,7 @@ module _ (value : ℕ → Bool) (label a b : ℕ) (marks : List ℕ) where
   contact_full e h k = by_test (marked marks b) (λ t. t) (λ t. absurd (omega (arith, rw (h, k, t) at e)))
 
 -- A switch.
-module _ (value : ℕ → Bool) (w : Switch) (marks : List ℕ) where
+module _ (value : ℕ → Bool) (w : Switch) (marks : List Bool) where
   travel_sound : (P : ℕ → Type 0) → ((u v : ℕ) → Closed value w u v → P u → P v) → ((v : ℕ) → So (marked marks v) → P v)
       → (v : ℕ) → So (marked (travel value w marks) v) → P v
   unfolding travel
@@ -122,24 +122,24 @@ module _ (value : ℕ → Bool) (w : Switch) (marks : List ℕ) where
 
 -- A sweep.
 module _ (value : ℕ → Bool) where
-  sweep_sound : (ws : List Switch) (marks : List ℕ) (P : ℕ → Type 0) → Full value ws P → ((v : ℕ) → So (marked marks v) → P v)
+  sweep_sound : (ws : List Switch) (marks : List Bool) (P : ℕ → Type 0) → Full value ws P → ((v : ℕ) → So (marked marks v) → P v)
       → (v : ℕ) → So (marked (sweep value ws marks) v) → P v
   unfolding sweep
   sweep_sound [] marks P full had = had
   sweep_sound (w ∷ ws) marks P full had =
       sweep_sound ws (travel value w marks) P (λ x m. full x (Memᴰ.tail m)) (travel_sound value w marks P (full w (Memᴰ.head refl)) had)
 
-  sweep_grows : (ws : List Switch) (marks : List ℕ) (v : ℕ) → So (marked marks v) → So (marked (sweep value ws marks) v)
+  sweep_grows : (ws : List Switch) (marks : List Bool) (v : ℕ) → So (marked marks v) → So (marked (sweep value ws marks) v)
   unfolding sweep
   sweep_grows [] marks v h = h
   sweep_grows (w ∷ ws) marks v h = sweep_grows ws (travel value w marks) v (travel_grows value w marks v h)
 
-  sweep_length : (ws : List Switch) (marks : List ℕ) → length (sweep value ws marks) ≡ length marks
+  sweep_length : (ws : List Switch) (marks : List Bool) → length (sweep value ws marks) ≡ length marks
   unfolding sweep
   sweep_length [] marks = refl
   sweep_length (w ∷ ws) marks = sweep_length ws (travel value w marks) ∙ travel_length value w marks
 
-  sweep_falls : (ws : List Switch) (marks : List ℕ) → ((w : Switch) → Memᴰ w ws → (w.first < length marks) × (w.second < length marks))
+  sweep_falls : (ws : List Switch) (marks : List Bool) → ((w : Switch) → Memᴰ w ws → (w.first < length marks) × (w.second < length marks))
       → unmarked (sweep value ws marks) + sweep_new value ws marks ≡ unmarked marks
   unfolding sweep sweep_new
   sweep_falls [] marks inside = omega arith
@@ -149,7 +149,7 @@ module _ (value : ℕ → Bool) where
       let r = sweep_falls ws (travel value w marks) (λ x m. rw (travel_length value w marks) (inside x (Memᴰ.tail m))) in
       omega arith
 
-  sweep_still : (ws : List Switch) (marks : List ℕ) → sweep_new value ws marks ≡ 0
+  sweep_still : (ws : List Switch) (marks : List Bool) → sweep_new value ws marks ≡ 0
       → (sweep value ws marks ≡ marks) × Full value ws (λ v. So (marked marks v))
   unfolding sweep sweep_new
   sweep_still [] marks e = (refl, λ w m. absurd (Memᴰ.not-nil m))
@@ -160,50 +160,50 @@ module _ (value : ℕ → Bool) where
       let r = sweep_still ws marks (rw s.0 at g) in
       (rw s.0 r.0, λ x m. ⊎_elim (λ q. rw q s.1) (λ n. r.1 x n) (Memᴰ.cases_cons m))
 
-  sweeps_sound : (ws : List Switch) (n : ℕ) (marks : List ℕ) (P : ℕ → Type 0) → Full value ws P → ((v : ℕ) → So (marked marks v) → P v)
+  sweeps_sound : (ws : List Switch) (n : ℕ) (marks : List Bool) (P : ℕ → Type 0) → Full value ws P → ((v : ℕ) → So (marked marks v) → P v)
       → (v : ℕ) → So (marked (sweeps value ws n marks) v) → P v
   unfolding sweeps
   sweeps_sound ws zero marks P full had = had
   sweeps_sound ws (suc n) marks P full had = sweep_sound ws (sweeps value ws n marks) P full (sweeps_sound ws n marks P full had)
 
-  sweeps_grows : (ws : List Switch) (n : ℕ) (marks : List ℕ) (v : ℕ) → So (marked marks v) → So (marked (sweeps value ws n marks) v)
+  sweeps_grows : (ws : List Switch) (n : ℕ) (marks : List Bool) (v : ℕ) → So (marked marks v) → So (marked (sweeps value ws n marks) v)
   unfolding sweeps
   sweeps_grows ws zero marks v h = h
   sweeps_grows ws (suc n) marks v h = sweep_grows ws (sweeps value ws n marks) v (sweeps_grows ws n marks v h)
 
 -- Sweeps until one marks nothing.
-pub record Spread (value : ℕ → Bool) (ws : List Switch) (before after : List ℕ) : Type 0 where
+pub record Spread (value : ℕ → Bool) (ws : List Switch) (before after : List Bool) : Type 0 where
   pub turns : ℕ
   pub marks : after ≡ sweeps value ws turns before
   pub still : sweep_new value ws after ≡ 0
 
 -- The marks then lie in every full set that holds the first marks,
-pub spread_sound : {value : ℕ → Bool} {ws : List Switch} {before after : List ℕ} → Spread value ws before after
+pub spread_sound : {value : ℕ → Bool} {ws : List Switch} {before after : List Bool} → Spread value ws before after
     → (P : ℕ → Type 0) → Full value ws P → ((v : ℕ) → So (marked before v) → P v) → (v : ℕ) → So (marked after v) → P v
 spread_sound {value} {ws} {before} spread P full had v = rw spread.marks (sweeps_sound value ws spread.turns before P full had v)
 
 -- hold the first marks,
-pub spread_grows : {value : ℕ → Bool} {ws : List Switch} {before after : List ℕ} → Spread value ws before after
+pub spread_grows : {value : ℕ → Bool} {ws : List Switch} {before after : List Bool} → Spread value ws before after
     → (v : ℕ) → So (marked before v) → So (marked after v)
 spread_grows {value} {ws} {before} spread v h = rw spread.marks (sweeps_grows value ws spread.turns before v h)
 
 -- and are full.
-pub spread_full : {value : ℕ → Bool} {ws : List Switch} {before after : List ℕ} → Spread value ws before after
+pub spread_full : {value : ℕ → Bool} {ws : List Switch} {before after : List Bool} → Spread value ws before after
     → Full value ws (λ v. So (marked after v))
 spread_full {value} {ws} {before} {after} spread = (sweep_still value ws after spread.still).1
 
 -- The loop: once the last sweep has marked nothing, none will.
-pub record Spreading (value : ℕ → Bool) (ws : List Switch) (before marks : List ℕ) (new : ℕ) : Type 0 where
+pub record Spreading (value : ℕ → Bool) (ws : List Switch) (before marks : List Bool) (new : ℕ) : Type 0 where
   pub turns : ℕ
   pub marked_by : marks ≡ sweeps value ws turns before
   pub still : new ≡ 0 → sweep_new value ws marks ≡ 0
   pub long : length marks ≡ side
 
 -- What is left to do: marks to set, and a last sweep that sets none.
-unfoldable pub pending : List ℕ → ℕ → ℕ
+unfoldable pub pending : List Bool → ℕ → ℕ
 pending marks new = unmarked marks + cond (eqb new 0) 0 1
 
-module _ (value : ℕ → Bool) (s : List ℕ) (parts : Sections) (layout : Layout s parts) (within : Within edition parts) (before : List ℕ) where
+module _ (value : ℕ → Bool) (s : List ℕ) (parts : Sections) (layout : Layout s parts) (within : Within edition parts) (before : List Bool) where
   ends : (w : Switch) → Memᴰ w (network_of s).switches → (w.first < side) × (w.second < side)
   ends =
       members (λ w. (w.first < side) × (w.second < side))
@@ -215,9 +215,9 @@ module _ (value : ℕ → Bool) (s : List ℕ) (parts : Sections) (layout : Layo
   unfolding sweeps
   spreading_none l = record { turns = 0; marked_by = refl; still = λ e. absurd (omega arith); long = l }
 
-  module _ (marks : List ℕ) (new : ℕ) (inv : Spreading value (network_of s).switches before marks new) where
+  module _ (marks : List Bool) (new : ℕ) (inv : Spreading value (network_of s).switches before marks new) where
     pub spreading_more :
-        (after : List ℕ) (r : ℕ) →
+        (after : List Bool) (r : ℕ) →
         Swept value (network_of s).switches marks after r →
         Spreading value (network_of s).switches before after r
     unfolding sweeps
@@ -232,7 +232,7 @@ module _ (value : ℕ → Bool) (s : List ℕ) (parts : Sections) (layout : Layo
 
     pub spreading_less :
         (new ≡ 0 → ⊥) →
-        (after : List ℕ) (r : ℕ) →
+        (after : List Bool) (r : ℕ) →
         Swept value (network_of s).switches marks after r →
         pending after r < pending marks new
     unfolding pending
@@ -241,6 +241,3 @@ module _ (value : ℕ → Bool) (s : List ℕ) (parts : Sections) (layout : Layo
         rw (ne_eqb new 0 d, t.marks) (by_test (eqb r 0)
         (λ q. rw q (omega (arith, t.count)))
         (λ q. rw q (let k = eqb-false r 0 q in omega (arith, t.count))))
-
-    pub spreading_all : new ≡ 0 → Spread value (network_of s).switches before marks
-    spreading_all e = record { turns = inv.turns; marks = inv.marked_by; still = inv.still e }

@@ -1,8 +1,8 @@
 -- Two outcomes that the promise allows coincide: the reply, and every byte of the lent buffer.
-use Rattle.std.specs.Prelude.{◌≡◌, List, ℕ, ◌+◌, ◌-◌, ltb, length, get_or}
+use Rattle.std.specs.Prelude.{◌≡◌, List, ℕ, ◌+◌, ◌-◌, ltb, length, get_or, Result}
 use Rattle.std.proofs.Common.{sym, ap, ◌∙◌, ⊎_elim, arith, ltb-true, ltb-false, ext_get_or, get_or-drop}
 use Rattle.laws.specs.Tests.{by_test}
-use Rattle.form.specs.declared.Reply.{Reply}
+use Rattle.form.specs.declared.Fault.{Fault}
 use Rattle.form.specs.Refusals.{Answer, refused, accepted}
 use Rattle.form.specs.Verdicts.{reply_unique}
 use Rattle.network.specs.Network.{Network, edition, network_of}
@@ -27,7 +27,7 @@ module _ (net : Network) (setting before x y : List ℕ) where
   same_left (refused number place) c d = c ∙ sym d
   same_left (accepted n) c d = same_bytes c d
 
-pub unique : (s setting before x y : List ℕ) (r q : Reply) → Promise s setting before x r → Promise s setting before y q → (r ≡ q) × (x ≡ y)
+pub unique : (s setting before x y : List ℕ) (r q : Result ℕ Fault) → Promise s setting before x r → Promise s setting before y q → (r ≡ q) × (x ≡ y)
 unique s setting before x y r q c d = (
   reply_unique r q (c.reply ∙ sym d.reply),
   same_left (network_of s) setting before x y (direct_answer edition s setting (length before)) c.bytes d.bytes,

@@ -1,4 +1,4 @@
-// The entries of an accepted file.
+// An accepted file, and its entries.
 
 #![tactic(auto)]
 
@@ -9,56 +9,44 @@ ghost use Rattle.network.specs.Layout.{Layout, coil_place, GivenRead, StartRead,
 use form::Record;
 use network::{Sections, Switch};
 
-// Coil number k of an accepted file.
-pub fn variable_of(file: &[u8], parts: Sections, k: usize) -> u16
-    requires layout { Layout file.now parts }
-    requires k_lt_variables { k < parts.variables }
-    ensures { result ≡ word_at file.now (coil_place k) }
-{
-    form::word(file, 2 + 2 * k)
+// The bytes of an accepted file, and its sections, which lie where its counts say. No limits are part of it: its entries are read at those of any edition.
+#[derive(Clone, Copy)]
+pub struct Accepted<'a> {
+    pub file: &'a [u8],
+    pub parts: Sections,
+    ghost layout: { Layout file.now parts },
 }
 
-// Given formula k of an accepted file.
-pub fn given_of(file: &[u8], parts: Sections, k: usize) -> Record
-    requires layout { Layout file.now parts }
-    requires k_lt_givens { k < parts.givens }
-    ensures { GivenRead file.now parts k result }
-{
-    let at = parts.givens_at + 2 + 6 * k;
-    let kind = form::word(file, at);
-    let first = form::word(file, at + 2);
-    let second = form::word(file, at + 4);
-    Record {
-        kind,
-        first,
-        second,
+impl Accepted<'_> {
+    // Coil number k.
+    pub fn variable(&self, k: usize) -> u16
+        requires { k < self.now.parts.variables }
+        ensures { result ≡ word_at self.now.file.now (coil_place k) }
+    {
+        form::word(self.file, 2 + 2 * k)
     }
-}
 
-// The starting formula of vertex k of an accepted file.
-pub fn start_of(file: &[u8], parts: Sections, k: usize) -> u16
-    requires layout { Layout file.now parts }
-    requires k_lt_vertices { k < parts.vertices }
-    ensures { StartRead file.now parts k result }
-{
-    form::word(file, parts.vertices_at + 2 + 2 * k)
-}
+    // Given formula k.
+    pub fn given(&self, k: usize) -> Record
+        requires { k < self.now.parts.givens }
+        ensures { GivenRead self.now.file.now self.now.parts k result }
+    {
+        network::read_record(self.file, self.parts.givens_at + 2 + 6 * k)
+    }
 
-// Switch k of an accepted file.
-pub fn switch_of(file: &[u8], parts: Sections, k: usize) -> Switch
-    requires layout { Layout file.now parts }
-    requires k_lt_switches { k < parts.switches }
-    ensures { SwitchRead file.now parts k result }
-{
-    let at = parts.switches_at + 2 + 8 * k;
-    let first = form::word(file, at);
-    let second = form::word(file, at + 2);
-    let there = form::word(file, at + 4);
-    let back = form::word(file, at + 6);
-    Switch {
-        first,
-        second,
-        there,
-        back,
+    // The starting formula of vertex k.
+    pub fn start(&self, k: usize) -> u16
+        requires { k < self.now.parts.vertices }
+        ensures { StartRead self.now.file.now self.now.parts k result }
+    {
+        form::word(self.file, self.parts.vertices_at + 2 + 2 * k)
+    }
+
+    // Switch k.
+    pub fn switch(&self, k: usize) -> Switch
+        requires { k < self.now.parts.switches }
+        ensures { SwitchRead self.now.file.now self.now.parts k result }
+    {
+        network::read_switch(self.file, self.parts.switches_at + 2 + 8 * k)
     }
 }

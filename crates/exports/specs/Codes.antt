@@ -1,8 +1,8 @@
 -- Replies as numbers, for callers in C.
-use Rattle.std.specs.Prelude.{◌≡◌, cond, ℕ, ◌+◌, ◌*◌, ◌/◌, ◌%◌, ◌<◌, ◌≤◌, ltb}
+use Rattle.std.specs.Prelude.{◌≡◌, cond, ℕ, ◌+◌, ◌*◌, ◌/◌, ◌%◌, ◌<◌, ◌≤◌, ltb, Result}
 use Rattle.std.proofs.Common.{ap₂, arith, lt-ltb, le-ltb}
 use Rattle.form.specs.Refusals.{Answer, refused, accepted, reply_of}
-use Rattle.form.specs.declared.Reply.{Reply}
+use Rattle.form.specs.declared.Fault.{Fault}
 
 -- 2³²
 abbrev pub upper : ℕ
@@ -18,8 +18,8 @@ unfoldable pub answer_from : ℕ → Answer ℕ
 answer_from r = cond (ltb r upper) (accepted r) (refused (r / upper) (r % upper))
 
 -- A call whose reply keeps a promise, through a door that gives the reply's number; and this number tells the reply.
-pub record Through (promise : Reply → Type 0) (r : ℕ) : Type 0 where
-  pub reply : Reply
+pub record Through (promise : Result ℕ Fault → Type 0) (r : ℕ) : Type 0 where
+  pub reply : Result ℕ Fault
   pub kept : promise reply
   pub code : r ≡ code_of (reply_of reply)
   pub says : answer_from r ≡ reply_of reply

@@ -9,9 +9,10 @@ ghost use Rattle.direct.specs.Promise.{Promise as DirectPromise};
 ghost use Rattle.list.specs.Promise.{Promise as ListPromise};
 ghost use Rattle.exports.specs.Codes.{code_of, Narrow, Through};
 
-use form::{Fault, Reply};
+use form::Fault;
 
 // A refusal's number for the caller: its own number × 2³², and its place.
+#[tactic(auto, unfolding(crate::specs::Codes::code_of))]
 fn refusal_code(f: Fault) -> u64
     requires { Narrow (refused (number_of f) (place_of f)) }
     ensures { result ≡ code_of (refused (number_of f) (place_of f)) }
@@ -20,17 +21,19 @@ fn refusal_code(f: Fault) -> u64
 }
 
 // A reply's number for the caller: the length where accepted.
-fn code(reply: Reply) -> u64
+#[tactic(auto, unfolding(crate::specs::Codes::code_of))]
+fn code(reply: Result<usize, Fault>) -> u64
     requires { Narrow (reply_of reply) }
     ensures { result ≡ code_of (reply_of reply) }
 {
     match reply {
-        Reply::Accepted(n) => n as u64,
-        Reply::Refused(f) => refusal_code(f),
+        Ok(n) => n as u64,
+        Err(f) => refusal_code(f),
     }
 }
 
 // Writes the result of a wiring file.
+#[tactic(auto, using(crate::specs::Doors::analysed_narrow))]
 #[unsafe(no_mangle)]
 pub extern "C" fn jorulbani_analyse(file: &[u8], out: &mut [u8]) -> u64
     ensures { Through (AnalysePromise file.now out.old out.new) result }
@@ -39,6 +42,7 @@ pub extern "C" fn jorulbani_analyse(file: &[u8], out: &mut [u8]) -> u64
 }
 
 // Writes the direct answer of a wiring file for one setting.
+#[tactic(auto, using(crate::specs::Doors::directed_narrow))]
 #[unsafe(no_mangle)]
 pub extern "C" fn jorulbani_direct(file: &[u8], setting: &[u8], out: &mut [u8]) -> u64
     ensures { Through (DirectPromise file.now setting.now out.old out.new) result }

@@ -1,9 +1,7 @@
 -- Refusals: a number and a place.
-use Rattle.std.specs.Prelude.{Bool, true, false, ℕ}
+use Rattle.std.specs.Prelude.{Bool, true, false, List, ◌++◌, ℕ, Result, Ok, Err, codes, decimal}
 use Rattle.form.specs.declared.Fault.{Fault}
 use Rattle.form.specs.declared.Fault.TheVariants as faults
-use Rattle.form.specs.declared.Reply.{Reply}
-use Rattle.form.specs.declared.Reply.TheVariants as replies
 
 -- Nothing is wrong, or the number of the cause and its place.
 pub data Verdict : Type 0 where
@@ -58,7 +56,15 @@ place_of faults.SettingLength = 0
 place_of (faults.SettingByte index) = index
 place_of faults.AnswerRoom = 0
 
--- What a reply says: refused with its fault's number and place, or accepted with how much was written.
-abbrev pub reply_of : Reply → Answer ℕ
-reply_of (replies.Accepted n) = accepted n
-reply_of (replies.Refused f) = refused (number_of f) (place_of f)
+-- A refusal in words: its number and its place, in decimal.
+abbrev pub words_of : Fault → List ℕ
+words_of f = codes "refusal " ++ decimal (number_of f) ++ codes " at " ++ decimal (place_of f)
+
+-- What a result says: refused with its fault's number and place, or accepted with what it gives.
+abbrev pub answer_of : {A : Type 0} → Result A Fault → Answer A
+answer_of (Ok a) = accepted a
+answer_of (Err f) = refused (number_of f) (place_of f)
+
+-- A reply's result is how much was written.
+abbrev pub reply_of : Result ℕ Fault → Answer ℕ
+reply_of r = answer_of r

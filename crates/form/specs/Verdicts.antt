@@ -1,12 +1,10 @@
 -- A verdict from the fact about the numbers, and back.
-use Rattle.std.specs.Prelude.{◌≡◌, refl, Bool, true, false, cond, ℕ, ◌<◌, ◌≤◌, eqb, leb, ltb}
+use Rattle.std.specs.Prelude.{◌≡◌, refl, Bool, true, false, cond, ℕ, ◌<◌, ◌≤◌, eqb, leb, ltb, Result, Ok, Err}
 use Rattle.std.proofs.Common.{ap, sym, ◌∙◌, arith, le-leb, lt-ltb, le-ltb}
 use Rattle.std.proofs.lemmas.Bool.{lt-leb}
 use Rattle.form.specs.declared.Fault.{Fault}
 use Rattle.form.specs.declared.Fault.TheVariants as faults
-use Rattle.form.specs.declared.Reply.{Reply}
-use Rattle.form.specs.declared.Reply.TheVariants as replies
-use Rattle.form.specs.Refusals.{Verdict, fine, fault, fault_if, first_of, Answer, refused, accepted, answer, number_of, place_of, reply_of}
+use Rattle.form.specs.Refusals.{Verdict, fine, fault, fault_if, first_of, Answer, refused, accepted, answer, number_of, place_of, answer_of, reply_of}
 
 -- A test that compares two numbers.
 module _ (n p : ℕ) {a b : ℕ} where
@@ -82,18 +80,22 @@ eight_of_none faults.SettingLength e = omega arith
 eight_of_none (faults.SettingByte index) e = omega arith
 eight_of_none faults.AnswerRoom e = omega arith
 
-pub eight_unused : (r : Reply) (place : ℕ) → reply_of r ≡ refused 8 place → ⊥
-eight_unused (replies.Accepted n) place e = let z : ◌≡◌ {A = ℕ} 0 1 = cc in omega arith
-eight_unused (replies.Refused f) place e = eight_of_none f cc
+pub eight_unused : (r : Result ℕ Fault) (place : ℕ) → reply_of r ≡ refused 8 place → ⊥
+eight_unused (Ok n) place e = let z : ◌≡◌ {A = ℕ} 0 1 = cc in omega arith
+eight_unused (Err f) place e = eight_of_none f cc
 
--- What a reply says determines it.
-abbrev reply_from : Answer ℕ → Reply
-reply_from (refused n p) = replies.Refused (fault_from n p)
-reply_from (accepted n) = replies.Accepted n
+-- What a result says determines it.
+module _ {A : Type 0} where
+  abbrev result_from : Answer A → Result A Fault
+  result_from (refused n p) = Err (fault_from n p)
+  result_from (accepted a) = Ok a
 
-reply_back : (r : Reply) → reply_from (reply_of r) ≡ r
-reply_back (replies.Accepted n) = refl
-reply_back (replies.Refused f) = ap replies.Refused (fault_back f)
+  result_back : (r : Result A Fault) → result_from (answer_of r) ≡ r
+  result_back (Ok a) = refl
+  result_back (Err f) = ap Err (fault_back f)
 
-pub reply_unique : (r q : Reply) → reply_of r ≡ reply_of q → r ≡ q
-reply_unique r q e = sym (reply_back r) ∙ ap reply_from e ∙ reply_back q
+  pub result_unique : (r q : Result A Fault) → answer_of r ≡ answer_of q → r ≡ q
+  result_unique r q e = sym (result_back r) ∙ ap result_from e ∙ result_back q
+
+pub reply_unique : (r q : Result ℕ Fault) → reply_of r ≡ reply_of q → r ≡ q
+reply_unique r q e = result_unique r q e

@@ -2,13 +2,25 @@
 
 #![tactic(auto)]
 
-ghost use Rattle.std.specs.Prelude.{◌≡◌, ◌+◌, ◌<◌, ◌≤◌, eqb, length};
-ghost use Rattle.form.specs.Numbers.{word_at, put_word, bit_of};
-ghost use Rattle.form.specs.Refusals.{number_of, place_of};
+ghost use Rattle.std.specs.Prelude.{◌≡◌, ◌+◌, ◌<◌, ◌≤◌, length, Some};
+ghost use Rattle.form.specs.Numbers.{word_at, put_word};
+ghost use Rattle.form.specs.Refusals.{number_of, place_of, words_of};
 ghost use Rattle.form.specs.References.{variable};
 
+use std::error::Error;
+use std::fmt;
+
+// The kind of and. Kinds stay numbers: `records::make` promises its outcome for every 16-bit kind, and the theorems of `formula` are over numbers.
+pub const AND: u16 = 1;
+
+// The kind of or.
+pub const OR: u16 = 2;
+
+// The kind of not.
+pub const NOT: u16 = 3;
+
 // A formula: its kind is 1 for and, 2 for or, 3 for not, and its arguments are references. A given formula and a record have this form.
-#[derive(Clone, Copy)]
+#[derive(Debug, Clone, Copy, PartialEq, Eq)]
 pub struct Record {
     pub kind: u16,
     pub first: u16,
@@ -16,7 +28,7 @@ pub struct Record {
 }
 
 // A reference: a constant, a variable, or a given formula or record.
-#[derive(Clone, Copy)]
+#[derive(Debug, Clone, Copy, PartialEq, Eq)]
 pub struct Reference {
     pub number: u16,
 }
@@ -40,7 +52,7 @@ impl Reference {
 }
 
 // What is wrong, by the refusals' numbers, with its place where that is not always 0. Number 8 is unused.
-#[derive(Clone, Copy)]
+#[derive(Debug, Clone, Copy, PartialEq, Eq)]
 pub enum Fault {
     Cut(usize),
     Count(usize),
@@ -56,7 +68,7 @@ pub enum Fault {
 }
 
 impl Fault {
-    // Its number.
+    // Its number, which the doors to C pass on.
     pub fn number(self) -> u64
         ensures { result ≡ number_of self }
     {
@@ -80,58 +92,49 @@ impl Fault {
         ensures { result ≡ place_of self }
     {
         match self {
-            Fault::Cut(at) => at,
-            Fault::Count(at) => at,
-            Fault::Coil(at) => at,
-            Fault::Kind(at) => at,
-            Fault::Reference(at) => at,
-            Fault::End(at) => at,
-            Fault::Trailing(at) => at,
-            Fault::ResultRoom => 0,
-            Fault::SettingLength => 0,
-            Fault::SettingByte(index) => index,
-            Fault::AnswerRoom => 0,
+            Fault::Cut(at)
+            | Fault::Count(at)
+            | Fault::Coil(at)
+            | Fault::Kind(at)
+            | Fault::Reference(at)
+            | Fault::End(at)
+            | Fault::Trailing(at)
+            | Fault::SettingByte(at) => at,
+            Fault::ResultRoom | Fault::SettingLength | Fault::AnswerRoom => 0,
         }
     }
 }
 
-// The answer to a call that fills a lent buffer: how much it has written, or why it has written nothing.
-#[derive(Clone, Copy)]
-pub enum Reply {
-    Accepted(usize),
-    Refused(Fault),
+// A refusal in words, by its number and its place.
+impl fmt::Display for Fault {
+    ghost output = { λ f. Some (words_of f) };
+
+    fn fmt<W: fmt::Write>(&self, f: &mut fmt::Formatter<W>) -> fmt::Result {
+        let number = self.number();
+        let place = self.place();
+        write!(f, "refusal {number} at {place}")
+    }
 }
 
-// A byte as a 16-bit number.
-fn wide(b: u8) -> u16
-    ensures { (result ≡ b) × (result < 256) }
-{
-    b as u16
-}
+// A call that is refused fails with it.
+impl Error for Fault {}
 
 // The number at a place.
+#[tactic(auto, unfolding(crate::specs::Numbers::word_at))]
 pub fn word(s: &[u8], at: usize) -> u16
     requires { at + 2 ≤ length s.now }
     ensures { result ≡ word_at s.now at }
 {
-    wide(s[at]) + 256 * wide(s[at + 1])
+    u16::from_le_bytes([s[at], s[at + 1]])
 }
 
 // Writes a number at a place.
+#[tactic(auto, unfolding(crate::specs::Numbers::put_word))]
 pub fn put_word(s: &mut [u8], at: usize, v: u16)
     requires { at + 2 ≤ length s.old }
     ensures { s.new ≡ put_word s.old at v }
 {
-    s[at] = (v % 256) as u8;
-    s[at + 1] = (v / 256) as u8;
-}
-
-// 1 for 1, and 0 for any other byte.
-pub fn bit(x: u8) -> u8
-    ensures { result ≡ bit_of (eqb x 1) }
-{
-    if x == 1 {
-        return 1;
-    }
-    0
+    let [low, high] = v.to_le_bytes();
+    s[at] = low;
+    s[at + 1] = high;
 }

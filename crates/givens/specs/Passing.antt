@@ -12,7 +12,6 @@ use Rattle.laws.specs.Tests.{by_choice}
 use Rattle.laws.specs.Places.{at_zeros, set_below}
 use Rattle.form.specs.References.{formula}
 use Rattle.form.specs.declared.Record.{Record}
-use Rattle.formula.specs.Make.{make}
 use Rattle.formula.specs.GivenLaws.{translate_take}
 use Rattle.formula.specs.Givens.{Passed, translate, pass_one, pass}
 use Rattle.network.specs.declared.Sections.{Sections}
@@ -20,10 +19,13 @@ use Rattle.network.specs.Network.{edition, entries_of, network_of}
 use Rattle.network.specs.Layout.{Sound, GivenRead}
 use Rattle.network.specs.Lists.{givens_length, given_at_lem}
 use Rattle.network.specs.Ranges.{second_in}
-use Rattle.records.specs.declared.Made.{Made}
+use Rattle.records.specs.Gives.{Made, Makes}
 use Rattle.records.specs.Bytes.{records_in}
-use Rattle.records.specs.Gives.{Room, Makes}
-use Rattle.records.specs.Grown.{Table, Grown, grown_none, grown_then, grown_length, grown_made, made_below, table_after, table_room}
+use Rattle.records.specs.Grown.{Table, Grown, grown_none, grown_then, grown_made, made_below}
+use Rattle.records.specs.Newest.{newest_none}
+use Rattle.records.specs.declared.Records.{Records}
+use Rattle.records.specs.Entered.{Noted, Empty, made, Entered}
+use Rattle.form.specs.declared.Reference.{Reference}
 use Rattle.givens.specs.Passed.{passed_of, make_given, Translatable, PassedIn}
 
 -- A reference below the first given formula's stays, and any other is looked up.
@@ -45,15 +47,6 @@ module _ (p : ℕ) (references : List ℕ) (x : ℕ) where
       by_choice (λ (r : ℕ). r < formula p count) (ltb x (formula p 0)) _ _
       (λ t. let l : x < formula p 0 = ltb-true _ _ t in omega arith)
       (λ t. h (x - formula p 0))
-
--- What is made of the translated arguments.
-pub makes_one :
-    (p base count : ℕ) (references : List ℕ) (g : Record) (s t : List ℕ) (m : Made) (a b : ℕ) →
-    a ≡ translate p references g.first →
-    b ≡ translate p references g.second →
-    Makes (make p g.kind a b) base count s t m →
-    Makes (make_given p references g) base count s t m
-makes_one p base count references g s t m a b e f made = rw (← e, ← f) made
 
 -- The first k given formulas have passed: what is left gives the whole, and each entry of the array is there.
 pub record Passing (file : List ℕ) (parts : Sections) (base : ℕ) (entry references exit : List ℕ) (count k : ℕ) : Type 0 where
@@ -81,17 +74,6 @@ module _ (file : List ℕ) (parts : Sections) (sound : Sound edition file parts)
       }
 
   module _ (references exit : List ℕ) (count k : ℕ) (inv : Passing file parts base entry references exit count k) where
-    -- There is room for one record more.
-    pub passing_room : k < parts.givens → Room parts.variables base count exit
-    passing_room h =
-        let e : k + (parts.givens - k) ≡ parts.givens = omega arith in
-        table_room parts.variables base (parts.givens - k) (omega arith)
-        (table_after parts.variables base k (parts.givens - k) (rw e table) inv.grown)
-
-    -- The buffer is as long as it was.
-    pub passing_length : length exit ≡ length entry
-    passing_length = grown_length parts.variables base inv.grown
-
     module _ (h : k < parts.givens) (g : Record) (read : GivenRead file parts k g) where
       second : g.second < formula parts.variables k
       second = second_in (formula parts.variables k) g (omega arith) read.range
@@ -166,3 +148,46 @@ module _ (file : List ℕ) (parts : Sections) (sound : Sound edition file parts)
           clear = λ j l. inv.clear j (omega arith);
           long = inv.long;
         }
+
+-- The same of the program's table of records, which lies where it was; the newest records are noted.
+pub record PassingIn (file : List ℕ) (parts : Sections) (t₀ : Records) (entry references : List ℕ) (t : Records) (exit : List ℕ) (k : ℕ)
+    : Type 0 where
+  pub passing : Passing file parts t₀.base entry references exit t.count k
+  pub noted : Noted t exit
+  pub base : t.base ≡ t₀.base
+  pub variables : t.variables ≡ parts.variables
+
+module _ (file : List ℕ) (parts : Sections) (sound : Sound edition file parts) (t₀ : Records) (entry : List ℕ)
+    (table : Table parts.variables t₀.base parts.givens 0 entry) where
+  pub passing_in_none : Empty parts.variables t₀ → (references : List ℕ) → references ≡ replicate edition.givens 0
+      → PassingIn file parts t₀ entry references t₀ entry 0
+  passing_in_none empty references e =
+      record {
+        passing = rw empty.count (passing_none file parts sound t₀.base entry table references e);
+        noted = rw empty.count (newest_none entry t₀.base t₀.newest empty.newest);
+        base = refl;
+        variables = empty.variables;
+      }
+
+  module _ (references : List ℕ) (t : Records) (exit : List ℕ) (k : ℕ) (inv : PassingIn file parts t₀ entry references t exit k) where
+    module _ (h : k < parts.givens) (g : Record) (read : GivenRead file parts k g) where
+      -- Given formula k can pass,
+      pub passing_translatable : Translatable t.variables references t.count g
+      passing_translatable =
+          rw inv.variables (passing_ready file parts sound t₀.base entry table references exit t.count k inv.passing h g read)
+
+      -- and has passed.
+      pub passing_in_more : (t' : Records) (after : List ℕ) (r : Reference)
+          → Entered (make_given t.variables references g) t exit t' after r
+          → PassingIn file parts t₀ entry (set references k r.number) t' after (k + 1)
+      passing_in_more t' after r x =
+          let makes : Makes (make_given parts.variables references g) t₀.base t.count exit after (made r t') = rw (inv.variables, inv.base) at x.makes in
+          record {
+            passing = passing_more file parts sound t₀.base entry table references exit t.count k inv.passing h g read after (made r t') makes;
+            noted = x.noted;
+            base = x.base ∙ inv.base;
+            variables = x.variables ∙ inv.variables;
+          }
+
+    pub passing_in_all : parts.givens ≤ k → PassedIn file parts t₀.base entry references exit t.count
+    passing_in_all h = passing_all file parts sound t₀.base entry table references exit t.count k inv.passing h

@@ -5,27 +5,26 @@
 ghost use Rattle.std.specs.Prelude.{◌≡◌, ◌<◌, ◌≤◌, replicate};
 ghost use Rattle.form.specs.References.{formula};
 ghost use Rattle.formula.specs.Givens.{translate};
-ghost use Rattle.network.specs.Layout.{Sound};
+ghost use Rattle.network.specs.Layout.{Within};
 ghost use Rattle.network.specs.Network.{edition};
-ghost use Rattle.records.specs.Bytes.{records_in};
-ghost use Rattle.records.specs.Gives.{Room, Makes};
+ghost use Rattle.records.specs.Entered.{Noted, Usable, Empty, Entered};
 ghost use Rattle.records.specs.Grown.{Table};
-ghost use Rattle.records.specs.Newest.{buckets, newest_of};
 ghost use Rattle.givens.specs.Passed.{make_given, Translatable, PassedIn};
 
+use entries::Accepted;
 use form::{Record, Reference};
-use network::Sections;
-use records::{BUCKETS, Made};
+use records::Records;
 
 // The most given formulas.
 pub const GIVENS: usize = 500;
 
 // A file's reference as the result's, where the array has what each given formula has become.
+#[tactic(auto, using(crate::specs::Passing::translate_low, crate::specs::Passing::translate_high))]
 pub fn translated(references: &[u16; GIVENS], p: usize, r: u16) -> Reference
     requires { (p ≤ edition.variables) × (r < formula p edition.givens) }
     ensures { result.number ≡ translate p references.now r }
 {
-    let i = r as usize;
+    let i = usize::from(r);
     if i < 2 + p {
         return Reference { number: r };
     }
@@ -37,50 +36,38 @@ pub fn translated(references: &[u16; GIVENS], p: usize, r: u16) -> Reference
 // A given formula, its arguments translated, by the rules.
 fn pass_one(
     references: &[u16; GIVENS],
+    records: &mut Records,
     out: &mut [u8],
-    newest: &mut [u16; BUCKETS],
-    base: usize,
-    p: usize,
-    count: usize,
     g: Record,
-) -> Made
-    requires translatable { Translatable p references.now count g }
-    requires room { Room p base count out.old }
-    requires newest_value { newest.old ≡ newest_of (records_in out.old base count) }
-    ensures makes { Makes (make_given p references.now g) base count out.old out.new result }
-    ensures newest_after { newest.new ≡ newest_of (records_in out.new base result.count) }
+) -> Reference
+    requires usable { Usable records.old out.old }
+    requires translatable { Translatable records.old.variables references.now records.old.count g }
+    ensures { Entered (make_given records.old.variables references.now g) records.old out.old records.new out.new result }
 {
+    let p = records.variables;
     let a = translated(references, p, g.first);
     let b = translated(references, p, g.second);
-    records::make(out, newest, base, p, count, g.kind, a, b)
+    records.make(out, g.kind, a, b)
 }
 
-// All given formulas in order; gives the number of records, and in the array what each has become.
+// All given formulas in order become the first records, and in the array is what each has become.
 pub fn pass_givens(
-    file: &[u8],
-    parts: Sections,
+    net: &Accepted<'_>,
     references: &mut [u16; GIVENS],
+    records: &mut Records,
     out: &mut [u8],
-    newest: &mut [u16; BUCKETS],
-    base: usize,
-) -> usize
-    requires sound { Sound edition file.now parts }
+)
+    requires within { Within edition net.now.parts }
     requires references_value { references.old ≡ replicate edition.givens 0 }
-    requires table { Table parts.variables base parts.givens 0 out.old }
-    requires newest_value { newest.old ≡ replicate buckets 0 }
-    ensures passed_in { PassedIn file.now parts base out.old references.new out.new result }
-    ensures newest_after { newest.new ≡ newest_of (records_in out.new base result) }
+    requires empty { Empty net.now.parts.variables records.old }
+    requires table { Table net.now.parts.variables records.old.base net.now.parts.givens 0 out.old }
+    ensures passed_in { PassedIn net.now.file.now net.now.parts records.old.base out.old references.new out.new records.new.count }
+    ensures noted { Noted records.new out.new }
+    ensures base { records.new.base ≡ records.old.base }
+    ensures variables { records.new.variables ≡ records.old.variables }
 {
-    let p = parts.variables;
-    let n = parts.givens;
-    let mut count = 0;
-    let mut k = 0;
-    while k < n {
-        let g = entries::given_of(file, parts, k);
-        let m = pass_one(references, out, newest, base, p, count, g);
-        references[k] = m.reference.number;
-        count = m.count;
-        k += 1;
+    for k in 0..net.parts.givens {
+        let made = pass_one(references, records, out, net.given(k));
+        references[k] = made.number;
     }
-    count
 }

@@ -1,4 +1,5 @@
 pub mod Lines
+pub mod Entries
 pub mod Parts
 pub mod Putting
 pub mod Loops

@@ -1,67 +1,44 @@
 -- The lines as they are put: the parts of each, and the room for these.
-use Rattle.std.specs.Prelude.{◌≡◌, List, ℕ, ◌+◌, ◌≤◌, length}
+use Rattle.std.specs.Prelude.{◌≡◌, List, ◌++◌, ℕ, ◌+◌, ◌≤◌, length}
 use Rattle.std.proofs.Math.Path.{refl}
 use Rattle.std.proofs.Common.{ap, arith, length-append}
 use borrow.Author.Tests.{eq-eqb, ne_eqb}
-use Rattle.form.specs.Numbers.{word_at}
 use Rattle.form.specs.References.{kind_and, kind_or, kind_not}
 use Rattle.form.specs.declared.Record.{Record}
-use Rattle.network.specs.Network.{given_at}
-use Rattle.stored.specs.Stored.{step_at}
+use Rattle.links.specs.Links.{Step}
 use Rattle.text.specs.Puts.{Puts}
-use Rattle.text.specs.Texts.{ascii, decimal, field, pair_line}
+use Rattle.text.specs.Texts.{ascii, ending, decimal, field, pair_line}
 use Rattle.lines.specs.Lines.{counts_line, pivot_line, kind_text, second_text, record_line, vertex_line}
 
 -- Lines of numbers that are read.
-pub pivot_line_lem : (s : List ℕ) (place vertex degree : ℕ) → vertex ≡ word_at s place → degree ≡ word_at s (place + 2)
-    → pivot_line 0 (step_at s place) ≡ pair_line (ascii "pivot ") vertex (ascii " degree ") degree
+pub pivot_line_lem : (k : ℕ) (p : Step) (vertex degree : ℕ) → vertex ≡ p.vertex → degree ≡ p.degree
+    → pivot_line k p ≡ pair_line (ascii "pivot ") vertex (ascii " degree ") degree
 unfolding pivot_line
-pivot_line_lem s place vertex degree a b = cc
+pivot_line_lem k p vertex degree a b = cc
 
-pub vertex_line_lem : (s : List ℕ) (place v answer : ℕ) → answer ≡ word_at s place
-    → vertex_line v (word_at s place) ≡ pair_line (ascii "vertex ") v (ascii " formula ") answer
+pub vertex_line_lem : (v answer read : ℕ) → read ≡ answer → vertex_line v answer ≡ pair_line (ascii "vertex ") v (ascii " formula ") read
 unfolding vertex_line
-vertex_line_lem s place v answer a = cc
+vertex_line_lem v answer read a = cc
 
-pub record_line_lem : (s : List ℕ) (place reference kind first second : ℕ) → kind ≡ word_at s place → first ≡ word_at s (place + 2)
-    → second ≡ word_at s (place + 4)
-    → record_line reference (given_at s place) ≡ record_line reference (record { kind = kind; first = first; second = second })
-record_line_lem s place reference kind first second a b c = cc
+pub record_line_parts : (reference : ℕ) (r : Record) (kind : List ℕ) (first : ℕ) → kind ≡ kind_text r.kind → first ≡ r.first
+    → record_line reference r ≡ field (ascii "f ") reference ++ (field kind first ++ (second_text r ++ ending))
+unfolding record_line
+record_line_parts reference r kind first a b = cc
 
--- Each kind's text, and how long it is.
+-- Each kind's text.
 module _ (kind : ℕ) where
-  module _ (e : kind ≡ kind_and) where
-    pub and_text : kind_text kind ≡ ascii " and "
-    unfolding kind_text
-    and_text = rw (eq-eqb kind kind_and e)
-
-    pub and_long : length (kind_text kind) ≡ 5
-    and_long = rw and_text
+  pub and_text : kind ≡ kind_and → kind_text kind ≡ ascii " and "
+  unfolding kind_text
+  and_text e = rw (eq-eqb kind kind_and e)
 
   module _ (a : kind ≡ kind_and → ⊥) where
-    module _ (e : kind ≡ kind_or) where
-      pub or_text : kind_text kind ≡ ascii " or "
-      unfolding kind_text
-      or_text = rw (ne_eqb kind kind_and a, eq-eqb kind kind_or e)
+    pub or_text : kind ≡ kind_or → kind_text kind ≡ ascii " or "
+    unfolding kind_text
+    or_text e = rw (ne_eqb kind kind_and a, eq-eqb kind kind_or e)
 
-      pub or_long : length (kind_text kind) ≡ 4
-      or_long = rw or_text
-
-    module _ (o : kind ≡ kind_or → ⊥) where
-      pub not_text : kind_text kind ≡ ascii " not "
-      unfolding kind_text
-      not_text = rw (ne_eqb kind kind_and a, ne_eqb kind kind_or o)
-
-      pub not_long : length (kind_text kind) ≡ 5
-      not_long = rw not_text
-
--- An equal amount fits as well, and the text is put as well.
-pub fits_as : (x y more at room : ℕ) → x ≡ y → at + (x + more) ≤ room → at + (y + more) ≤ room
-fits_as x y more at room e h = rw e at h
-
-pub field_as : (x y : List ℕ) → x ≡ y → (n at : ℕ) (before after : List ℕ) (r : ℕ) → Puts (field y n) at before after r
-    → Puts (field x n) at before after r
-field_as x y e n at before after r p = rw e p
+    pub not_text : (kind ≡ kind_or → ⊥) → kind_text kind ≡ ascii " not "
+    unfolding kind_text
+    not_text o = rw (ne_eqb kind kind_and a, ne_eqb kind kind_or o)
 
 -- The room of the first line, by its numbers: its texts are 40 bytes.
 abbrev pub counts_room : ℕ → ℕ → ℕ → ℕ → ℕ → ℕ
@@ -80,12 +57,12 @@ module _ (r : Record) where
   unfolding second_text
   second_none e at before = rw (eq-eqb r.kind kind_not e) (record { end = omega arith; long = refl; put = refl })
 
-  module _ (e : r.kind ≡ kind_not → ⊥) where
-    pub second_field : second_text r ≡ field (ascii " ") r.second
+  module _ (e : r.kind ≡ kind_not → ⊥) (second : ℕ) (is : second ≡ r.second) where
+    pub second_field : second_text r ≡ field (ascii " ") second
     unfolding second_text
-    second_field = rw (ne_eqb r.kind kind_not e)
+    second_field = rw (ne_eqb r.kind kind_not e, is)
 
-    pub second_room : (at room : ℕ) → at + length (second_text r) ≤ room → at + (1 + length (decimal r.second)) ≤ room
+    pub second_room : (at room : ℕ) → at + length (second_text r) ≤ room → at + (1 + length (decimal second)) ≤ room
     second_room at room h = omega (arith, ap length second_field)
 
 -- The room of a record's line, by its parts: its reference, its kind and first argument, its second.
@@ -93,12 +70,6 @@ abbrev pub record_room : ℕ → Record → ℕ
 record_room reference r =
     3 + (length (decimal reference) + (length (kind_text r.kind) + length (decimal r.first) + length (second_text r)))
 
-record_long : (reference : ℕ) (r : Record) → length (record_line reference r) ≡ record_room reference r
+pub record_long : (reference : ℕ) (r : Record) → length (record_line reference r) ≡ record_room reference r
 unfolding record_line
 record_long reference r = simp length-append (omega arith)
-
-pub record_room_lem : (s : List ℕ) (place reference kind first second at room : ℕ) → kind ≡ word_at s place → first ≡ word_at s (place + 2)
-    → second ≡ word_at s (place + 4) → at + length (record_line reference (given_at s place)) ≤ room
-    → at + record_room reference (record { kind = kind; first = first; second = second }) ≤ room
-record_room_lem s place reference kind first second at room a b c h =
-    rw (← record_long, ← record_line_lem s place reference kind first second a b c) h

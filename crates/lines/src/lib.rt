@@ -2,127 +2,152 @@
 
 #![tactic(auto)]
 
-ghost use Rattle.std.specs.Prelude.{◌≡◌, ◌+◌, ◌<◌, ◌≤◌, length};
+ghost use Rattle.std.specs.Prelude.{◌≡◌, List, ℕ, ◌+◌, ◌*◌, ◌^◌, ◌<◌, ◌≤◌, length};
 ghost use Rattle.form.specs.Numbers.{word_at};
-ghost use Rattle.form.specs.References.{formula};
-ghost use Rattle.lines.specs.Lines.{counts_line, pivot_line, kind_text, second_text, record_line, vertex_line, lines, result_lines};
-ghost use Rattle.lines.specs.Parts.{Whole, Laid};
-ghost use Rattle.lines.specs.Putting.{counts_room, record_room};
+ghost use Rattle.lines.specs.Lines.{counts_line, kind_text, second_text, record_line, lines, result_lines};
+ghost use Rattle.lines.specs.Entries.{pivot_at, answer_at, line_of_pivot, line_of_answer};
+ghost use Rattle.lines.specs.Parts.{section_at, Whole, Laid};
+ghost use Rattle.lines.specs.Putting.{counts_room};
 ghost use Rattle.lines.specs.Sections.{section_lines, sections_room};
-ghost use Rattle.network.specs.Network.{given_at};
-ghost use Rattle.stored.specs.Stored.{step_at, stored_of};
+ghost use Rattle.network.specs.Network.{given_size, vertex_size, after, given_at, section_of};
+ghost use Rattle.stored.specs.Stored.{step_size, stored_of};
 ghost use Rattle.text.specs.Puts.{Puts};
-ghost use Rattle.text.specs.Texts.{decimal, field};
 
-use form::Record;
+use form::{AND, NOT, OR, Record};
 
-// The counts of a result's sections, the places of those after the first, and the figures.
+// A section: the place of its count, and the count.
+#[derive(Clone, Copy)]
+struct Section {
+    place: usize,
+    count: usize,
+}
+
+// How many variables a result has, the sections after theirs, and the figures.
 #[derive(Clone, Copy)]
 struct Parts {
     variables: usize,
-    records: usize,
-    answers: usize,
-    pivots: usize,
-    records_at: usize,
-    answers_at: usize,
-    order_at: usize,
+    records: Section,
+    answers: Section,
+    order: Section,
     joins: usize,
     work: usize,
 }
 
 // The number at a place.
-fn number(s: &[u8], at: usize) -> usize
-    requires { at + 2 ≤ length s.now }
-    ensures { (result ≡ word_at s.now at) × (result < 65536) }
+fn number_at(bytes: &[u8], place: usize) -> usize
+    requires { place + 2 ≤ length bytes.now }
+    ensures { (result ≡ word_at bytes.now place) × (result < 65536) }
 {
-    form::word(s, at) as usize
+    usize::from(form::word(bytes, place))
+}
+
+impl Section {
+    // The section whose count is at a place.
+    fn read(bytes: &[u8], place: usize) -> Section
+        requires { place + 2 ≤ length bytes.now }
+        ensures { (result ≡ section_at bytes.now place) × (result.count < 65536) }
+    {
+        Section {
+            place,
+            count: number_at(bytes, place),
+        }
+    }
+
+    // Where it ends, by the bytes of an entry.
+    fn end(self, size: usize) -> usize
+        requires { self.place + 2 + size * self.count < 2 ^ 64 }
+        ensures { result ≡ self.place + 2 + size * self.count }
+    {
+        self.place + 2 + size * self.count
+    }
 }
 
 // Reads a result's counts and figures.
-fn parts_of(res: &[u8]) -> Parts
-    requires { Whole res.now }
-    ensures { Laid res.now result }
+fn parts_of(bytes: &[u8]) -> Parts
+    requires { Whole bytes.now }
+    ensures { Laid bytes.now result }
 {
-    let variables = number(res, 0);
-    let records_at = 2 + 2 * variables;
-    let records = number(res, records_at);
-    let answers_at = records_at + 2 + 6 * records;
-    let answers = number(res, answers_at);
-    let order_at = answers_at + 2 + 2 * answers;
-    let pivots = number(res, order_at);
-    let figures_at = order_at + 2 + 4 * pivots;
-    let joins = number(res, figures_at + 4);
-    let work = number(res, figures_at + 6);
+    let variables = Section::read(bytes, 0);
+    let records = Section::read(bytes, variables.end(2));
+    let answers = Section::read(bytes, records.end(Record::SIZE));
+    let order = Section::read(bytes, answers.end(Answer::SIZE));
+    let figures_at = order.end(Pivot::SIZE);
     Parts {
-        variables,
+        variables: variables.count,
         records,
         answers,
-        pivots,
-        records_at,
-        answers_at,
-        order_at,
-        joins,
-        work,
+        order,
+        joins: number_at(bytes, figures_at + 4),
+        work: number_at(bytes, figures_at + 6),
     }
 }
 
-// Puts the first line; gives the place after it, as do all below after theirs.
-fn put_counts(
-    out: &mut [u8],
-    vertices: usize,
-    switches: usize,
-    joins: usize,
-    work: usize,
-    nodes: usize,
-) -> usize
-    requires { counts_room vertices switches joins work nodes ≤ length out.old }
-    ensures { Puts (counts_line vertices switches joins work nodes) 0 out.old out.new result }
-{
-    let one = text::put_field(out, 0, b"vertices ", vertices);
-    let two = text::put_field(out, one, b" switches ", switches);
-    let three = text::put_field(out, two, b" joins ", joins);
-    text::put_pair(out, three, b" work ", work, b" nodes ", nodes)
+// An entry of a section: how many bytes it has, what they say, and its line, by its number.
+trait Entry {
+    const SIZE: usize;
+
+    ghost SIZE: { ℕ };
+
+    ghost read_at: { List ℕ → ℕ → Self };
+
+    ghost line: { ℕ → Self → List ℕ };
+
+    // The entry at a place.
+    fn read(bytes: &[u8], place: usize) -> Self
+        requires { place + SIZE ≤ length bytes.now }
+        ensures { result ≡ read_at bytes.now place };
+
+    // Puts its line; gives the place after it, as do all below.
+    fn put(self, out: &mut [u8], at: usize, number: usize) -> usize
+        requires { at + length (line number self) ≤ length out.old }
+        ensures { Puts (line number self) at out.old out.new result };
 }
 
-// Puts the line of the pivot at a place. It does not show its number.
-fn put_pivot(out: &mut [u8], at: usize, res: &[u8], place: usize) -> usize
-    requires place_in_bounds { place + 4 ≤ length res.now }
-    requires place_in_bounds_2 { at + length (pivot_line 0 (step_at res.now place)) ≤ length out.old }
-    ensures { Puts (pivot_line 0 (step_at res.now place)) at out.old out.new result }
-{
-    let vertex = number(res, place);
-    let degree = number(res, place + 2);
-    text::put_pair(out, at, b"pivot ", vertex, b" degree ", degree)
+// A pivot's vertex, and its degree when it was taken.
+#[derive(Clone, Copy)]
+struct Pivot {
+    vertex: u16,
+    degree: u16,
 }
 
-// Puts the lines of the pivots.
-fn put_pivots(out: &mut [u8], at: usize, res: &[u8], parts: Parts) -> usize
-    requires laid { Laid res.now parts }
-    requires res_in_bounds { at + length (lines pivot_line 0 (stored_of res.now).order) ≤ length out.old }
-    ensures { Puts (lines pivot_line 0 (stored_of res.now).order) at out.old out.new result }
-{
-    let mut next = at;
-    let mut i = 0;
-    while i < parts.pivots {
-        next = put_pivot(out, next, res, parts.order_at + 2 + 4 * i);
-        i += 1;
+impl Entry for Pivot {
+    const SIZE: usize = 4;
+
+    ghost SIZE = { step_size };
+
+    ghost read_at = { pivot_at };
+
+    ghost line = { line_of_pivot };
+
+    fn read(bytes: &[u8], place: usize) -> Pivot {
+        Pivot {
+            vertex: form::word(bytes, place),
+            degree: form::word(bytes, place + 2),
+        }
     }
-    next
+
+    // It does not show its number.
+    fn put(self, out: &mut [u8], at: usize, _: usize) -> usize {
+        text::put_pair(
+            out,
+            at,
+            b"pivot ",
+            usize::from(self.vertex),
+            b" degree ",
+            usize::from(self.degree),
+        )
+    }
 }
 
-// Puts a record's kind and first argument.
-fn put_kind(out: &mut [u8], at: usize, kind: u16, first: usize) -> usize
-    requires { at + (length (kind_text kind) + length (decimal first)) ≤ length out.old }
-    ensures puts { Puts (field (kind_text kind) first) at out.old out.new result }
-    ensures value { result ≡ at + (length (kind_text kind) + length (decimal first)) }
+// A kind's text.
+fn kind_text(kind: u16) -> &'static [u8]
+    ensures { result.now ≡ kind_text kind }
 {
-    if kind == 1 {
-        return text::put_field(out, at, b" and ", first);
+    match kind {
+        AND => b" and ",
+        OR => b" or ",
+        _ => b" not ",
     }
-    if kind == 2 {
-        return text::put_field(out, at, b" or ", first);
-    }
-    text::put_field(out, at, b" not ", first)
 }
 
 // Puts a record's second argument, unless it is a not.
@@ -130,106 +155,126 @@ fn put_second(out: &mut [u8], at: usize, r: Record) -> usize
     requires { at + length (second_text r) ≤ length out.old }
     ensures { Puts (second_text r) at out.old out.new result }
 {
-    if r.kind == 3 {
+    if r.kind == NOT {
         return at;
     }
-    text::put_field(out, at, b" ", r.second as usize)
+    text::put_field(out, at, b" ", usize::from(r.second))
 }
 
-// Puts the line of a formula with this reference.
-fn put_formula(out: &mut [u8], at: usize, reference: usize, r: Record) -> usize
-    requires { at + record_room reference r ≤ length out.old }
-    ensures { Puts (record_line reference r) at out.old out.new result }
-{
-    let one = text::put_field(out, at, b"f ", reference);
-    let two = put_kind(out, one, r.kind, r.first as usize);
-    let three = put_second(out, two, r);
-    text::put_text(out, three, b"\n")
+impl Entry for Record {
+    const SIZE: usize = 6;
+
+    ghost SIZE = { given_size };
+
+    ghost read_at = { given_at };
+
+    ghost line = { record_line };
+
+    fn read(bytes: &[u8], place: usize) -> Record {
+        network::read_record(bytes, place)
+    }
+
+    // Its number is its reference.
+    #[tactic(auto, using(crate::specs::Putting::record_long))]
+    fn put(self, out: &mut [u8], at: usize, number: usize) -> usize {
+        let one = text::put_field(out, at, b"f ", number);
+        let two = text::put_field(out, one, kind_text(self.kind), usize::from(self.first));
+        let three = put_second(out, two, self);
+        text::put_text(out, three, b"\n")
+    }
 }
 
-// Puts the line of the record at a place.
-fn put_record(out: &mut [u8], at: usize, reference: usize, res: &[u8], place: usize) -> usize
-    requires place_in_bounds { place + 6 ≤ length res.now }
-    requires place_in_bounds_2 { at + length (record_line reference (given_at res.now place)) ≤ length out.old }
-    ensures { Puts (record_line reference (given_at res.now place)) at out.old out.new result }
-{
-    let kind = form::word(res, place);
-    let first = form::word(res, place + 2);
-    let second = form::word(res, place + 4);
-    let r = Record {
-        kind,
-        first,
-        second,
-    };
-    put_formula(out, at, reference, r)
+// A vertex's formula.
+#[derive(Clone, Copy)]
+struct Answer {
+    formula: u16,
 }
 
-// Puts the lines of the records.
-fn put_records(out: &mut [u8], at: usize, res: &[u8], parts: Parts) -> usize
-    requires laid { Laid res.now parts }
-    requires res_in_bounds { at + length (lines record_line (formula parts.variables 0) (stored_of res.now).records) ≤ length out.old }
-    ensures { Puts (lines record_line (formula parts.variables 0) (stored_of res.now).records) at out.old out.new result }
+impl Entry for Answer {
+    const SIZE: usize = 2;
+
+    ghost SIZE = { vertex_size };
+
+    ghost read_at = { answer_at };
+
+    ghost line = { line_of_answer };
+
+    fn read(bytes: &[u8], place: usize) -> Answer {
+        Answer {
+            formula: form::word(bytes, place),
+        }
+    }
+
+    fn put(self, out: &mut [u8], at: usize, number: usize) -> usize {
+        text::put_pair(
+            out,
+            at,
+            b"vertex ",
+            number,
+            b" formula ",
+            usize::from(self.formula),
+        )
+    }
+}
+
+// Puts the lines of a section's entries, numbered from a first number on.
+fn put_entries<E: Entry>(
+    out: &mut [u8],
+    at: usize,
+    bytes: &[u8],
+    section: Section,
+    first: usize,
+) -> usize
+    requires counted { section ≡ section_at bytes.now section.place }
+    requires within { after E.SIZE bytes.now section.place ≤ length bytes.now }
+    requires numbered { first + section.count ≤ length bytes.now }
+    requires room { at + length (lines E.line first (section_of E.read_at E.SIZE bytes.now section.place)) ≤ length out.old }
+    ensures { Puts (lines E.line first (section_of E.read_at E.SIZE bytes.now section.place)) at out.old out.new result }
 {
-    let base = 2 + parts.variables;
     let mut next = at;
-    let mut i = 0;
-    while i < parts.records {
-        next = put_record(out, next, base + i, res, parts.records_at + 2 + 6 * i);
-        i += 1;
+    for k in 0..section.count {
+        let entry = E::read(bytes, section.place + 2 + E::SIZE * k);
+        next = entry.put(out, next, first + k);
     }
     next
 }
 
-// Puts the line of the vertex v, whose answer is at a place.
-fn put_vertex(out: &mut [u8], at: usize, v: usize, res: &[u8], place: usize) -> usize
-    requires place_in_bounds { place + 2 ≤ length res.now }
-    requires place_in_bounds_2 { at + length (vertex_line v (word_at res.now place)) ≤ length out.old }
-    ensures { Puts (vertex_line v (word_at res.now place)) at out.old out.new result }
+// Puts the first line.
+fn put_counts(out: &mut [u8], switches: usize, parts: Parts) -> usize
+    requires { counts_room parts.answers.count switches parts.joins parts.work parts.records.count ≤ length out.old }
+    ensures { Puts (counts_line parts.answers.count switches parts.joins parts.work parts.records.count) 0 out.old out.new result }
 {
-    let answer = number(res, place);
-    text::put_pair(out, at, b"vertex ", v, b" formula ", answer)
-}
-
-// Puts the lines of the vertices.
-fn put_vertices(out: &mut [u8], at: usize, res: &[u8], parts: Parts) -> usize
-    requires laid { Laid res.now parts }
-    requires res_in_bounds { at + length (lines vertex_line 0 (stored_of res.now).answers) ≤ length out.old }
-    ensures { Puts (lines vertex_line 0 (stored_of res.now).answers) at out.old out.new result }
-{
-    let mut next = at;
-    let mut v = 0;
-    while v < parts.answers {
-        next = put_vertex(out, next, v, res, parts.answers_at + 2 + 2 * v);
-        v += 1;
-    }
-    next
+    let one = text::put_field(out, 0, b"vertices ", parts.answers.count);
+    let two = text::put_field(out, one, b" switches ", switches);
+    let three = text::put_field(out, two, b" joins ", parts.joins);
+    text::put_pair(
+        out,
+        three,
+        b" work ",
+        parts.work,
+        b" nodes ",
+        parts.records.count,
+    )
 }
 
 // Puts the lines after the first.
-fn put_sections(out: &mut [u8], at: usize, res: &[u8], parts: Parts) -> usize
-    requires laid { Laid res.now parts }
-    requires res_in_bounds { at + sections_room parts.variables (stored_of res.now) ≤ length out.old }
-    ensures { Puts (section_lines parts.variables (stored_of res.now)) at out.old out.new result }
+fn put_sections(out: &mut [u8], at: usize, bytes: &[u8], parts: Parts) -> usize
+    requires laid { Laid bytes.now parts }
+    requires room { at + sections_room parts.variables (stored_of bytes.now) ≤ length out.old }
+    ensures { Puts (section_lines parts.variables (stored_of bytes.now)) at out.old out.new result }
 {
-    let next = put_pivots(out, at, res, parts);
-    let last = put_records(out, next, res, parts);
-    put_vertices(out, last, res, parts)
+    let pivots = put_entries::<Pivot>(out, at, bytes, parts.order, 0);
+    let records = put_entries::<Record>(out, pivots, bytes, parts.records, 2 + parts.variables);
+    put_entries::<Answer>(out, records, bytes, parts.answers, 0)
 }
 
 // Puts the lines of a result.
-pub fn put_result(switches: usize, res: &[u8], out: &mut [u8]) -> usize
-    requires whole { Whole res.now }
-    requires res_in_bounds { length (result_lines switches (stored_of res.now)) ≤ length out.old }
-    ensures { Puts (result_lines switches (stored_of res.now)) 0 out.old out.new result }
+pub fn put_result(switches: usize, bytes: &[u8], out: &mut [u8]) -> usize
+    requires whole { Whole bytes.now }
+    requires room { length (result_lines switches (stored_of bytes.now)) ≤ length out.old }
+    ensures { Puts (result_lines switches (stored_of bytes.now)) 0 out.old out.new result }
 {
-    let parts = parts_of(res);
-    let next = put_counts(
-        out,
-        parts.answers,
-        switches,
-        parts.joins,
-        parts.work,
-        parts.records,
-    );
-    put_sections(out, next, res, parts)
+    let parts = parts_of(bytes);
+    let next = put_counts(out, switches, parts);
+    put_sections(out, next, bytes, parts)
 }

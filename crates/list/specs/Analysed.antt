@@ -1,5 +1,5 @@
 -- What the analysis of a file, in room enough for any result, tells of its listing.
-use Rattle.std.specs.Prelude.{◌≡◌, List, ◌++◌, ℕ, ◌≤◌, length}
+use Rattle.std.specs.Prelude.{◌≡◌, List, ◌++◌, ℕ, ◌≤◌, length, Result, Ok, Err}
 use Rattle.std.proofs.Common.{arith}
 use Rattle.std.proofs.Math.ListN.{drop, length-append}
 use Rattle.analyse.specs.Promise.{Promise}
@@ -8,8 +8,6 @@ use Rattle.analysis.specs.Result.{result_of}
 use Rattle.analysis.specs.Room.{result_room, fault_in_room}
 use Rattle.form.specs.Refusals.{Verdict, fine, fault, refused, accepted, answer, number_of, place_of}
 use Rattle.form.specs.declared.Fault.{Fault}
-use Rattle.form.specs.declared.Reply.{Reply}
-use Rattle.form.specs.declared.Reply.TheVariants as replies
 use Rattle.lines.specs.Lines.{result_lines}
 use Rattle.lines.specs.Parts.{Whole}
 use Rattle.network.specs.Faults.{network_fault}
@@ -41,9 +39,9 @@ pub record Listed (s after : List ℕ) : Type 0 where
   pub fits : (switches : ℕ) → Short switches → length (result_lines switches (stored_of after)) ≤ listing_room
 
 -- What an analysis in room enough for any result tells of the listing: it is a refusal's line, or those of the result.
-unfoldable pub Tells : List ℕ → List ℕ → Reply → Type 0
-Tells s after (replies.Refused f) = listing s ≡ refused_line (number_of f) (place_of f)
-Tells s after (replies.Accepted n) = Listed s after
+unfoldable pub Tells : List ℕ → List ℕ → Result ℕ Fault → Type 0
+Tells s after (Err f) = listing s ≡ refused_line (number_of f) (place_of f)
+Tells s after (Ok n) = Listed s after
 
 module _ (s before after : List ℕ) (room : length before ≡ result_room) where
   -- The listing goes by the analysis' own verdict.
@@ -54,11 +52,11 @@ module _ (s before after : List ℕ) (room : length before ≡ result_room) wher
   unfolding listing
   listing_by v e = rw (fault_by v e)
 
-  pub analysis_tells : (reply : Reply) → Promise s before after reply → Tells s after reply
+  pub analysis_tells : (reply : Result ℕ Fault) → Promise s before after reply → Tells s after reply
   unfolding Tells analysis listing_for
-  analysis_tells (replies.Refused f) call =
+  analysis_tells (Err f) call =
       listing_by _ (length_refused (analysis_fault edition s (length before)) (result_of (network_of s)) _ _ call.reply)
-  analysis_tells (replies.Accepted n) call =
+  analysis_tells (Ok n) call =
       let net = network_of s in
       let v = length_accepted (analysis_fault edition s (length before)) (result_of net) n call.reply in
       let tail = drop (length (result_of net)) before in
@@ -71,8 +69,8 @@ module _ (s before after : List ℕ) (room : length before ≡ result_room) wher
       }
 
 -- By its cases.
-module _ (s after : List ℕ) (reply : Reply) (told : Tells s after reply) where
-  module _ (f : Fault) (e : reply ≡ replies.Refused f) where
+module _ (s after : List ℕ) (reply : Result ℕ Fault) (told : Tells s after reply) where
+  module _ (f : Fault) (e : reply ≡ Err f) where
     line : listing s ≡ refused_line (number_of f) (place_of f)
     unfolding Tells
     line = rw e at told
@@ -83,7 +81,7 @@ module _ (s after : List ℕ) (reply : Reply) (told : Tells s after reply) where
     pub told_refused : {out put : List ℕ} {r : ℕ} → Puts (refused_line (number_of f) (place_of f)) 0 out put r → Puts (listing s) 0 out put r
     told_refused puts = rw line puts
 
-  module _ (n : ℕ) (e : reply ≡ replies.Accepted n) where
+  module _ (n : ℕ) (e : reply ≡ Ok n) where
     listed : Listed s after
     unfolding Tells
     listed = rw e at told

@@ -1,5 +1,5 @@
 -- What `list` promises, and that each way out keeps it.
-use Rattle.std.specs.Prelude.{◌≡◌, List, ◌++◌, ℕ, ◌+◌, ◌<◌, ◌≤◌, length, take, drop}
+use Rattle.std.specs.Prelude.{◌≡◌, List, ◌++◌, ℕ, ◌+◌, ◌<◌, ◌≤◌, length, take, drop, Result, Err}
 use Rattle.std.proofs.Common.{sym, ◌∙◌, arith, lt-ltb, le-ltb, length-append, length-take-le}
 use Rattle.std.proofs.Math.Nat.{zero-add}
 use Rattle.std.proofs.lemmas.List.Edits.{sets-eq}
@@ -9,8 +9,7 @@ use Rattle.network.specs.Layout.{network_answer}
 use Rattle.network.specs.Network.{edition}
 use Rattle.reader.specs.Answers.{checked_of}
 use Rattle.reader.specs.Callers.{reads_refused}
-use Rattle.reader.specs.declared.Checked.{Checked}
-use Rattle.reader.specs.declared.Checked.TheVariants as checks
+use Rattle.network.specs.declared.Sections.{Sections}
 use Rattle.text.specs.Puts.{Puts}
 use Rattle.text.specs.Putting.{pair_room}
 use Rattle.text.specs.Texts.{ascii, decimal, pair_line}
@@ -60,7 +59,7 @@ module _ (s before : List ℕ) where
         record { long = rw t (omega (arith, puts.end)); bytes = rw t (puts.put ∙ rw zero-add at (sets-eq (listing s) before 0 (omega arith))) }
 
     -- The file is refused: its line fits,
-    module _ (r : Checked) (f : Fault) (e : r ≡ checks.Refused f) (a : checked_of r ≡ network_answer edition s) where
+    module _ (r : Result Sections Fault) (f : Fault) (e : r ≡ Err f) (a : checked_of r ≡ network_answer edition s) where
       unread : listing s ≡ refused_line (number_of f) (place_of f)
       unfolding listing listing_for
       unread = let v = reads_refused s r f e a in rw (← v)

@@ -5,16 +5,15 @@
 ghost use Rattle.std.specs.Prelude.{◌≡◌, ◌≤◌, length};
 ghost use Rattle.form.specs.Refusals.{number_of, place_of};
 ghost use Rattle.analysis.specs.Room.{result_room};
-ghost use Rattle.network.specs.Layout.{Sound};
+ghost use Rattle.network.specs.Layout.{Within};
 ghost use Rattle.network.specs.Network.{edition};
 ghost use Rattle.text.specs.Puts.{Puts};
 ghost use Rattle.list.specs.Analysed.{Tells};
 ghost use Rattle.list.specs.Listing.{refused_line, listing, listing_room};
 ghost use Rattle.list.specs.Promise.{Promise};
 
-use form::{Fault, Reply};
-use network::Sections;
-use reader::Checked;
+use entries::Accepted;
+use form::Fault;
 
 // Room for any listing.
 pub const LISTING_ROOM: usize = 262144;
@@ -33,24 +32,23 @@ fn put_refused(f: Fault, out: &mut [u8]) -> usize
 }
 
 // Analyses a file in room enough for any result.
-fn analysed(file: &[u8], res: &mut [u8; RESULT_ROOM]) -> Reply
-    requires { length res.old ≡ result_room }
-    ensures tells { Tells file.now res.new result }
-    ensures res_len { length res.new ≡ result_room }
+fn analysed(file: &[u8], bytes: &mut [u8; RESULT_ROOM]) -> Result<usize, Fault>
+    ensures tells { Tells file.now bytes.new result }
+    ensures room { length bytes.new ≡ result_room }
 {
-    analyse::analyse(file, res)
+    analyse::analyse(file, bytes)
 }
 
 // Lists an accepted file.
-fn list_accepted(file: &[u8], parts: Sections, out: &mut [u8]) -> usize
-    requires sound { Sound edition file.now parts }
-    requires listing_room_in_bounds { listing_room ≤ length out.old }
-    ensures { Puts (listing file.now) 0 out.old out.new result }
+fn list_accepted(net: &Accepted<'_>, out: &mut [u8]) -> usize
+    requires within { Within edition net.now.parts }
+    requires room { listing_room ≤ length out.old }
+    ensures { Puts (listing net.now.file.now) 0 out.old out.new result }
 {
-    let mut result = [0; RESULT_ROOM];
-    match analysed(file, &mut result) {
-        Reply::Refused(f) => put_refused(f, out),
-        Reply::Accepted(_) => lines::put_result(parts.switches, &result, out),
+    let mut bytes = [0; RESULT_ROOM];
+    match analysed(net.file, &mut bytes) {
+        Err(f) => put_refused(f, out),
+        Ok(_) => lines::put_result(net.parts.switches, &bytes, out),
     }
 }
 
@@ -59,10 +57,11 @@ pub fn list(file: &[u8], out: &mut [u8]) -> usize
     ensures { Promise file.now out.old out.new result }
 {
     if out.len() < LISTING_ROOM {
+        // Not an `Option`: the promise of `list`, and C's callers, have the length 0 here.
         return 0;
     }
     match reader::check_network(file) {
-        Checked::Refused(f) => put_refused(f, out),
-        Checked::Accepted(parts) => list_accepted(file, parts, out),
+        Err(f) => put_refused(f, out),
+        Ok(parts) => list_accepted(&Accepted { file, parts }, out),
     }
 }

@@ -18,6 +18,7 @@ fn read_full<R: Read>(input: &mut R, buf: &mut [u8]) -> io::Result<usize>
     ensures end { IfOk result (λ n. n < length buf.new → IsAtEnd (R.remaining input.new)) }
 {
     let mut done = 0;
+    // No `for`, since a read gives as many bytes as it likes; `read_exact` refuses a short input, and `read_to_end` takes a heap.
     while done < buf.len() {
         let n = input.read(&mut buf[done..])?;
         if n == 0 {

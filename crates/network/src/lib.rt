@@ -2,6 +2,11 @@
 
 #![tactic(auto)]
 
+ghost use Rattle.std.specs.Prelude.{◌≡◌, ◌+◌, ◌≤◌, length};
+ghost use Rattle.network.specs.Network.{given_at, switch_at};
+
+use form::Record;
+
 // The width of the tables by vertex.
 pub const SIDE: usize = 24;
 
@@ -33,4 +38,29 @@ pub struct Sections {
     pub givens_at: usize,
     pub vertices_at: usize,
     pub switches_at: usize,
+}
+
+// The formula at a place, which is a given formula or a record. It and `read_switch` have the same shape over other fields, which a trait would only name again.
+pub fn read_record(s: &[u8], at: usize) -> Record
+    requires { at + 6 ≤ length s.now }
+    ensures { result ≡ given_at s.now at }
+{
+    Record {
+        kind: form::word(s, at),
+        first: form::word(s, at + 2),
+        second: form::word(s, at + 4),
+    }
+}
+
+// The switch at a place.
+pub fn read_switch(s: &[u8], at: usize) -> Switch
+    requires { at + 8 ≤ length s.now }
+    ensures { result ≡ switch_at s.now at }
+{
+    Switch {
+        first: form::word(s, at),
+        second: form::word(s, at + 2),
+        there: form::word(s, at + 4),
+        back: form::word(s, at + 6),
+    }
 }

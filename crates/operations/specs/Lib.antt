@@ -1,4 +1,5 @@
 pub mod Then
 pub mod Runs
 pub mod Ways
+pub mod Worksheets
 pub mod Unique

@@ -7,7 +7,7 @@ use Rattle.std.proofs.Math.ListN.{length-append}
 use Rattle.form.specs.References.{kind_and, kind_or}
 use Rattle.form.specs.declared.Record.{Record}
 use Rattle.formula.specs.Make.{Outcome, make}
-use Rattle.records.specs.declared.Made.{Made}
+use Rattle.records.specs.Gives.{Made}
 use Rattle.records.specs.Bytes.{records_in, put_records}
 use Rattle.records.specs.Laws.{puts_append}
 use Rattle.records.specs.Gives.{Gives, Makes}

@@ -7,7 +7,7 @@ use Rattle.form.specs.References.{formula}
 use Rattle.network.specs.Network.{side}
 use Rattle.formula.specs.Make.{Outcome, make}
 use Rattle.formula.specs.MakeLaws.{Keeps}
-use Rattle.records.specs.declared.Made.{Made}
+use Rattle.records.specs.Gives.{Made}
 use Rattle.records.specs.Bytes.{records_in}
 use Rattle.records.specs.Laws.{length_records}
 use Rattle.records.specs.Gives.{Room, Gives, Makes}

@@ -1,72 +1,62 @@
 -- The ways out of `check_within`: each section that was read tells its verdict and its count, and these give the answer.
-use mathlib.Core.Path.{◌≡◌}
-use mathlib.Core.List.{List}
-use Prim.Native.Nat.{ℕ, ◌+◌, ◌*◌, ◌<◌, ◌≤◌}
-use lib.ListN.{length}
+use Rattle.std.specs.Prelude.{Result, Ok, Err}
+use Rattle.std.proofs.Common.{◌≡◌, List, ℕ, ◌+◌, ◌*◌, ◌<◌, ◌≤◌, length}
 use Rattle.form.specs.declared.Fault.{Fault}
 use Rattle.form.specs.declared.Fault.TheVariants as faults
-use Rattle.network.specs.Faults.{trailing_fault, network_fault}
+use Rattle.network.specs.Network.{variable_size, given_size, vertex_size, switch_size}
+use Rattle.network.specs.Faults.{coil_fault, given_fault, vertex_fault, switch_fault, trailing_fault, network_fault}
 use Rattle.network.specs.Layout.{network_answer}
 use Rattle.network.specs.Verdicts.{trailing, no_trailing}
 use Rattle.network.specs.declared.Limits.{Limits}
-use Rattle.reader.specs.Answers.{count_of, section_count, checked_of}
-use Rattle.reader.specs.declared.Checked.TheVariants as answers
-use Rattle.reader.specs.declared.Counted.{Counted}
-use Rattle.reader.specs.declared.Counted.TheVariants as counts
-use Rattle.reader.specs.declared.Section.TheVariants as parts
-use Rattle.reader.proofs.Whole.{passed, stopped}
+use Rattle.reader.specs.Answers.{checked_of}
+use Rattle.reader.proofs.Whole.{Count, passed, stopped}
 
 module _ (limits : Limits) (s : List ℕ) where
-  pub variables_wrong :
-      (r : Counted) (f : Fault) →
-      r ≡ counts.Wrong f →
-      count_of r ≡ section_count limits.variables parts.Variables s 0 →
-      checked_of (answers.Refused f) ≡ network_answer limits s
-  unfolding network_fault
-  variables_wrong r f e c = let h = stopped _ _ _ _ _ e c in rw (← h)
+  -- Each section's answer, at the place that the counts before it give.
+  abbrev pub Variables : Result ℕ Fault → Type 0
+  Variables = Count limits.variables variable_size coil_fault s 0
 
-  module _ (r₁ : Counted) (p : ℕ) (e₁ : r₁ ≡ counts.Entries p) (c₁ : count_of r₁ ≡ section_count limits.variables parts.Variables s 0) where
-    pub givens_wrong :
-        (r : Counted) (f : Fault) →
-        r ≡ counts.Wrong f →
-        count_of r ≡ section_count limits.givens (parts.Givens p) s (2 + 2 * p) →
-        checked_of (answers.Refused f) ≡ network_answer limits s
+  abbrev pub Givens : ℕ → Result ℕ Fault → Type 0
+  Givens p = Count limits.givens given_size (given_fault p) s (2 + 2 * p)
+
+  abbrev pub Vertices : ℕ → ℕ → Result ℕ Fault → Type 0
+  Vertices p g = Count limits.vertices vertex_size (vertex_fault (2 + p + g)) s (2 + 2 * p + 2 + 6 * g)
+
+  abbrev pub Switches : ℕ → ℕ → ℕ → Result ℕ Fault → Type 0
+  Switches p g n = Count limits.switches switch_size (switch_fault n (2 + p + g)) s (2 + 2 * p + 2 + 6 * g + 2 + 2 * n)
+
+  pub variables_wrong : {r : Result ℕ Fault} {f : Fault} → r ≡ Err f → Variables r → checked_of (Err f) ≡ network_answer limits s
+  unfolding network_fault
+  variables_wrong e c = let h = stopped _ _ _ _ _ e c in rw (← h)
+
+  module _ {r₁ : Result ℕ Fault} {p : ℕ} (e₁ : r₁ ≡ Ok p) (c₁ : Variables r₁) where
+    pub givens_wrong : {r : Result ℕ Fault} {f : Fault} → r ≡ Err f → Givens p r → checked_of (Err f) ≡ network_answer limits s
     unfolding network_fault
-    givens_wrong r f e c =
+    givens_wrong e c =
         let h₁ = passed _ _ _ _ _ e₁ c₁ in
         let h = stopped _ _ _ _ _ e c in
         rw (← h₁.good, ← h₁.count, ← h)
 
-    module _ (r₂ : Counted) (g : ℕ) (e₂ : r₂ ≡ counts.Entries g) (c₂ : count_of r₂ ≡ section_count limits.givens (parts.Givens p) s (2 + 2 * p)) where
-      pub vertices_wrong :
-          (r : Counted) (f : Fault) →
-          r ≡ counts.Wrong f →
-          count_of r ≡ section_count limits.vertices (parts.Vertices (2 + p + g)) s (2 + 2 * p + 2 + 6 * g) →
-          checked_of (answers.Refused f) ≡ network_answer limits s
+    module _ {r₂ : Result ℕ Fault} {g : ℕ} (e₂ : r₂ ≡ Ok g) (c₂ : Givens p r₂) where
+      pub vertices_wrong : {r : Result ℕ Fault} {f : Fault} → r ≡ Err f → Vertices p g r → checked_of (Err f) ≡ network_answer limits s
       unfolding network_fault
-      vertices_wrong r f e c =
+      vertices_wrong e c =
           let h₁ = passed _ _ _ _ _ e₁ c₁ in
           let h₂ = passed _ _ _ _ _ e₂ c₂ in
           let h = stopped _ _ _ _ _ e c in
           rw (← h₁.good, ← h₁.count, ← h₂.good, ← h₂.count, ← h)
 
-      module _ (r₃ : Counted) (n : ℕ) (e₃ : r₃ ≡ counts.Entries n)
-          (c₃ : count_of r₃ ≡ section_count limits.vertices (parts.Vertices (2 + p + g)) s (2 + 2 * p + 2 + 6 * g)) where
-        pub switches_wrong :
-            (r : Counted) (f : Fault) →
-            r ≡ counts.Wrong f →
-            count_of r ≡ section_count limits.switches (parts.Switches n (2 + p + g)) s (2 + 2 * p + 2 + 6 * g + 2 + 2 * n) →
-            checked_of (answers.Refused f) ≡ network_answer limits s
+      module _ {r₃ : Result ℕ Fault} {n : ℕ} (e₃ : r₃ ≡ Ok n) (c₃ : Vertices p g r₃) where
+        pub switches_wrong : {r : Result ℕ Fault} {f : Fault} → r ≡ Err f → Switches p g n r → checked_of (Err f) ≡ network_answer limits s
         unfolding network_fault
-        switches_wrong r f e c =
+        switches_wrong e c =
             let h₁ = passed _ _ _ _ _ e₁ c₁ in
             let h₂ = passed _ _ _ _ _ e₂ c₂ in
             let h₃ = passed _ _ _ _ _ e₃ c₃ in
             let h = stopped _ _ _ _ _ e c in
             rw (← h₁.good, ← h₁.count, ← h₂.good, ← h₂.count, ← h₃.good, ← h₃.count, ← h)
 
-        module _ (r₄ : Counted) (m : ℕ) (e₄ : r₄ ≡ counts.Entries m)
-            (c₄ : count_of r₄ ≡ section_count limits.switches (parts.Switches n (2 + p + g)) s (2 + 2 * p + 2 + 6 * g + 2 + 2 * n)) where
+        module _ {r₄ : Result ℕ Fault} {m : ℕ} (e₄ : r₄ ≡ Ok m) (c₄ : Switches p g n r₄) where
           -- With all four read, only bytes after the switches can be wrong.
           last : network_fault limits s ≡ trailing_fault s (2 + 2 * p + 2 + 6 * g + 2 + 2 * n + 2 + 8 * m)
           unfolding network_fault
@@ -79,12 +69,12 @@ module _ (limits : Limits) (s : List ℕ) where
 
           pub file_trails :
               2 + 2 * p + 2 + 6 * g + 2 + 2 * n + 2 + 8 * m < length s →
-              checked_of (answers.Refused (faults.Trailing (2 + 2 * p + 2 + 6 * g + 2 + 2 * n + 2 + 8 * m))) ≡ network_answer limits s
+              checked_of (Err (faults.Trailing (2 + 2 * p + 2 + 6 * g + 2 + 2 * n + 2 + 8 * m))) ≡ network_answer limits s
           file_trails h = rw (last, ← trailing _ _ h)
 
           pub file_fine :
               length s ≤ 2 + 2 * p + 2 + 6 * g + 2 + 2 * n + 2 + 8 * m →
-              checked_of (answers.Accepted (record {
+              checked_of (Ok (record {
                 variables = p;
                 givens = g;
                 vertices = n;

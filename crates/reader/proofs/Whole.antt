@@ -1,18 +1,14 @@
 -- The verdict on a section, from its count and its entries; and what a section that was read tells.
-use mathlib.Core.Path.{◌≡◌}
-use mathlib.Core.List.{List}
-use Prim.Native.Nat.{ℕ, ◌+◌, ◌<◌, ◌≤◌}
-use native.Mathlib.Omega.{arith}
-use lib.ListN.{length}
+use Rattle.std.specs.Prelude.{Result, Ok, Err, IsErrAnd}
+use Rattle.std.proofs.Common.{◌≡◌, List, ℕ, ◌+◌, ◌<◌, ◌≤◌, length, arith}
+use Rattle.std.proofs.lemmas.Result.{err_from_is_err_and}
 use Rattle.form.specs.Numbers.{word_at}
-use Rattle.form.specs.Refusals.{Verdict, fine, fault, refused, answer, number_of, place_of}
+use Rattle.form.specs.Refusals.{Verdict, fine, fault, Answer, refused, answer, answer_of, number_of, place_of}
 use Rattle.form.specs.Verdicts.{accepts, refuses}
 use Rattle.form.specs.declared.Fault.{Fault}
 use Rattle.network.specs.Faults.{entries_fault, section_fault}
 use Rattle.network.specs.Verdicts.{cut, whole, count_over, count_fits}
-use Rattle.reader.specs.Answers.{count_of}
-use Rattle.reader.specs.declared.Counted.{Counted}
-use Rattle.reader.specs.declared.Counted.TheVariants as counts
+use Rattle.reader.specs.Answers.{count_of, section_count}
 
 module _ (limit size : ℕ) (test : List ℕ → ℕ → ℕ → Verdict) (s : List ℕ) (at : ℕ) where
   -- The ways out of `read_section`.
@@ -24,19 +20,28 @@ module _ (limit size : ℕ) (test : List ℕ → ℕ → ℕ → Verdict) (s : L
   unfolding section_fault
   section_over h l = rw (← whole s at 2 h, ← count_over s at limit l)
 
-  pub section_entries : {v : Verdict} {count : ℕ} → count ≡ word_at s at → at + 2 ≤ length s → count ≤ limit → v ≡ entries_fault size test s (at + 2) 0 count → answer v count ≡ answer (section_fault limit size test s at) (word_at s at)
+  pub section_entries : {v : Verdict} {count : ℕ} → count ≡ word_at s at → at + 2 ≤ length s → count ≤ limit
+      → v ≡ entries_fault size test s (at + 2) 0 count → answer v count ≡ answer (section_fault limit size test s at) (word_at s at)
   unfolding section_fault
   section_entries w h l e = rw (← whole s at 2 h, ← count_fits s at limit (omega arith), e, w)
 
-  -- Nothing is wrong with it, and its count is known;
+  -- What was read is the section's answer:
+  pub record Count (r : Result ℕ Fault) : Type 0 where
+    pub is : count_of r ≡ section_count limit size test s at
+
+  -- nothing is wrong with it, and its count is known;
   pub record Passed (n : ℕ) : Type 0 where
     pub good : fine ≡ section_fault limit size test s at
     pub count : n ≡ word_at s at
 
-  pub passed : {r : Counted} {n : ℕ} → r ≡ counts.Entries n → count_of r ≡ answer (section_fault limit size test s at) (word_at s at) → Passed n
-  passed e f =
-      let h = accepts _ _ _ (rw e at f) in record { good = h.0; count = h.1 }
+  pub passed : {r : Result ℕ Fault} {n : ℕ} → r ≡ Ok n → Count r → Passed n
+  passed e c = let h = accepts _ _ _ (rw e at c.is) in record { good = h.0; count = h.1 }
 
   -- or its fault is.
-  pub stopped : {r : Counted} {f : Fault} → r ≡ counts.Wrong f → count_of r ≡ answer (section_fault limit size test s at) (word_at s at) → fault (number_of f) (place_of f) ≡ section_fault limit size test s at
-  stopped e f = refuses _ _ _ _ (rw e at f)
+  pub stopped : {r : Result ℕ Fault} {f : Fault} → r ≡ Err f → Count r → fault (number_of f) (place_of f) ≡ section_fault limit size test s at
+  stopped e c = refuses _ _ _ _ (rw e at c.is)
+
+-- A fault that is passed on refuses.
+pub refusing : {A : Type 0} {a : Answer A} (r : Result A Fault) (f : Fault) → IsErrAnd r (λ e. e ≡ f) → refused (number_of f) (place_of f) ≡ a
+    → answer_of r ≡ a
+refusing r f h e = let p = err_from_is_err_and r h in rw (p.1, p.2) e

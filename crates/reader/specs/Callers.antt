@@ -1,5 +1,5 @@
 -- What a caller learns from the reader's answer.
-use Rattle.std.specs.Prelude.{◌≡◌, List, ℕ}
+use Rattle.std.specs.Prelude.{◌≡◌, List, ℕ, Result, Ok, Err}
 use Rattle.form.specs.declared.Fault.{Fault}
 use Rattle.form.specs.Refusals.{fault, accepted, number_of, place_of}
 use Rattle.form.specs.Verdicts.{refuses}
@@ -9,17 +9,15 @@ use Rattle.network.specs.Layout.{Sound, sections_of, network_answer}
 use Rattle.network.specs.Network.{edition}
 use Rattle.network.specs.Ranges.{sound}
 use Rattle.reader.specs.Answers.{checked_of}
-use Rattle.reader.specs.declared.Checked.{Checked}
-use Rattle.reader.specs.declared.Checked.TheVariants as checks
 
-module _ (s : List ℕ) (r : Checked) where
+module _ (s : List ℕ) (r : Result Sections Fault) where
   -- The file is refused,
-  pub reads_refused : (f : Fault) → r ≡ checks.Refused f → checked_of r ≡ network_answer edition s
+  pub reads_refused : (f : Fault) → r ≡ Err f → checked_of r ≡ network_answer edition s
       → fault (number_of f) (place_of f) ≡ network_fault edition s
   reads_refused f e a = refuses (sections_of s) _ _ _ (rw e at a)
 
   -- or accepted, and then it is sound.
-  module _ (parts : Sections) (e : r ≡ checks.Accepted parts) (a : checked_of r ≡ network_answer edition s) where
+  module _ (parts : Sections) (e : r ≡ Ok parts) (a : checked_of r ≡ network_answer edition s) where
     pub reads_accepted : accepted parts ≡ network_answer edition s
     reads_accepted = rw e at a
 

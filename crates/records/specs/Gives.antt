@@ -4,8 +4,13 @@ use Rattle.form.specs.References.{formula}
 use Rattle.form.specs.declared.Record.{Record}
 use Rattle.formula.specs.Make.{Outcome}
 use Rattle.formula.specs.MakeLaws.{Orderly}
-use Rattle.records.specs.declared.Made.{Made}
+use Rattle.form.specs.declared.Reference.{Reference}
 use Rattle.records.specs.Bytes.{records_in, put_records}
+
+-- What making gives: a reference, and how many records there are then.
+pub record Made : Type 0 where
+  pub reference : Reference
+  pub count : ℕ
 
 -- The records are in order, there is room for one more, and its reference has 16 bits.
 pub record Room (p base count : ℕ) (s : List ℕ) : Type 0 where

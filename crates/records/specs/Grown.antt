@@ -6,7 +6,7 @@ use Rattle.form.specs.declared.Record.{Record}
 use Rattle.formula.specs.Make.{Outcome, make}
 use Rattle.formula.specs.MakeLaws.{Orderly, Keeps}
 use Rattle.formula.proofs.MakeLaws.{keeps_make}
-use Rattle.records.specs.declared.Made.{Made}
+use Rattle.records.specs.Gives.{Made}
 use Rattle.records.specs.Bytes.{records_in, put_records}
 use Rattle.records.specs.Laws.{length_records, put_none, puts_append, puts_length}
 use Rattle.records.specs.Gives.{Room, Gives, Makes}

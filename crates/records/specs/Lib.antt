@@ -1,5 +1,6 @@
 pub mod Bytes
 pub mod Gives
+pub mod Entered
 pub mod Laws
 pub mod Newest
 pub mod Found

@@ -4,7 +4,7 @@ use Rattle.std.proofs.Common.{sym, ◌∙◌, append-nil, arith}
 use borrow.Author.Tests.{eq-eqb, ne_eqb, lt-ltb, le-ltb, le-leb, lt-leb}
 use Rattle.form.specs.References.{formula}
 use Rattle.form.specs.declared.Record.{Record}
-use Rattle.records.specs.declared.Made.{Made}
+use Rattle.records.specs.Gives.{Made}
 use Rattle.records.specs.Bytes.{records_in, put_record}
 use Rattle.records.specs.Laws.{length_records, records_more, put_none, put_one}
 use Rattle.formula.specs.Make.{old, index_of, named, not_of, and_or, holds, absorbed, neutral, deciding, enter, negate, relate, combine, make}

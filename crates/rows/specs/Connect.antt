@@ -57,10 +57,10 @@ module _ (w : Switch) (links : List ℕ) (long : length links ≡ side) where
         long = long;
       }
 
-  -- Both rows have been written.
-  module _ (d : w.first ≡ w.second → ⊥) (hf : w.first < side) (hs : w.second < side) (x y : ℕ)
-      (ex : x ≡ including (get_or links w.first 0) w.second) (ey : y ≡ including (get_or (set links w.first x) w.second 0) w.first)
-      (t : Bool) (test : t ≡ has (get_or links w.first 0) w.second) where
+  -- Both rows have been written, by the numbers of the ends.
+  module _ (d : w.first ≡ w.second → ⊥) (hf : w.first < side) (hs : w.second < side) (a b : ℕ) (ea : a ≡ w.first) (eb : b ≡ w.second) (x y : ℕ)
+      (ex : x ≡ including (get_or links a 0) b) (ey : y ≡ including (get_or (set links a x) b 0) a) (t : Bool)
+      (test : t ≡ has (get_or links a 0) b) where
     half : List ℕ
     half = linked_to w.first w.second links
 
@@ -69,15 +69,15 @@ module _ (w : Switch) (links : List ℕ) (long : length links ≡ side) where
     half_long = linked_long links w.first w.second (omega arith) ∙ long
 
     exit : List ℕ
-    exit = set (set links w.first x) w.second y
-
-    written : exit ≡ connected w links
-    unfolding exit connected linked_to
-    written = rw (ne_eqb _ _ d, ← ex, ← ey)
+    exit = set (set links a x) b y
 
     linked : exit ≡ linked_to w.second w.first half
     unfolding exit half linked_to
-    linked = rw (← ex, ← ey)
+    linked = rw (← ea, ← eb, ← ex, ← ey)
+
+    written : exit ≡ connected w links
+    unfolding half connected
+    written = rw (ne_eqb _ _ d) linked
 
     graphs : links_in exit ≡ link w (links_in links)
     unfolding half link
@@ -91,12 +91,12 @@ module _ (w : Switch) (links : List ℕ) (long : length links ≡ side) where
 
     connects : (r : ℕ) → r ≡ cond t 2 0 → r ≤ 2 → Connects w links exit r
     unfolding joins_at links_in
-    connects r e most = record { graph = graphs; joins = e ∙ rw (ne_eqb _ _ d, ← test); most = most; rows = written; long = longs }
+    connects r e most = record { graph = graphs; joins = e ∙ rw (ne_eqb _ _ d, ← ea, ← eb, ← test); most = most; rows = written; long = longs }
 
-    pub connects_first : t ≡ false → Connects w links (set (set links w.first x) w.second y) 0
+    pub connects_first : t ≡ false → Connects w links (set (set links a x) b y) 0
     unfolding exit
     connects_first e = connects 0 (rw e) (omega arith)
 
-    pub connects_later : t ≡ true → Connects w links (set (set links w.first x) w.second y) 2
+    pub connects_later : t ≡ true → Connects w links (set (set links a x) b y) 2
     unfolding exit
     connects_later e = connects 2 (rw e) (omega arith)

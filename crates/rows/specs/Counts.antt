@@ -1,9 +1,8 @@
 -- The size of a row: as many as the vertices that it has.
-use Rattle.std.specs.Prelude.{◌≡◌, refl, ℕ, zero, suc, ◌/◌, ◌%◌, ◌^◌, ◌<◌, ◌≤◌, length}
+use Rattle.std.specs.Prelude.{◌≡◌, refl, ℕ, zero, suc, ◌/◌, ◌%◌, ◌^◌, ◌<◌, length}
 use Rattle.std.proofs.Common.{sym, ap, ◌∙◌, arith, pow-suc}
 use Rattle.std.proofs.Math.Nat.{div-div-eq-div-mul}
 use Rattle.std.specs.Int.Count.{ones, ones_step}
-use Rattle.std.proofs.lemmas.Nat.{ones-le}
 use Rattle.laws.specs.Tests.{by_same}
 use Rattle.links.specs.Lists.{keep, up_to}
 use Rattle.rows.specs.Row.{has, vertices_in}
@@ -11,10 +10,6 @@ use Rattle.rows.specs.Row.{has, vertices_in}
 zero_ones : ones 0 ≡ 0
 unfolding ones
 zero_ones = refl
-
--- No row has more than it has bits.
-pub ones_most : (row : ℕ) → row < 2 ^ 64 → ones row ≤ 64
-ones_most row h = ones-le 64 row h
 
 -- From vertex k on.
 ones_from : (row n k : ℕ) → row / 2 ^ k < 2 ^ n → ones (row / 2 ^ k) ≡ length (keep (has row) (up_to n k))

@@ -1,6 +1,6 @@
 -- A row of bits as a set of vertices: which it has, and what becomes of it where one is added or taken out.
 use Rattle.std.specs.Prelude.{◌≡◌, refl, Bool, true, false, not, cond, ◌&&◌, ◌||◌, List, ℕ, zero, suc, min, max, ◌+◌, ◌*◌, ◌-◌, ◌/◌, ◌%◌, ◌^◌, ◌<◌, ◌≤◌}
-use Rattle.std.proofs.Common.{sym, ◌∙◌, arith, pow-suc, mul_comm, eq-eqb, ne_eqb, eqb-true, pow_pos, shl_exact}
+use Rattle.std.proofs.Common.{sym, ◌∙◌, arith, pow-suc, mul_comm, eq-eqb, ne_eqb, eqb-true, pow_pos}
 use Rattle.std.proofs.Math.Path.{ap}
 use Rattle.std.proofs.Math.Bool.{and-true, and-false, or-true, or-false}
 use Rattle.std.proofs.Math.Nat.{zero-div, div-div-eq-div-mul}
@@ -45,14 +45,7 @@ pub all_is : (n bit : ℕ) → bit ≡ 2 ^ n → bit - 1 ≡ all_of n
 unfolding all_of
 all_is n bit e = rw e
 
--- A row of one vertex is a shift, and not 0,
-pub one_shifted : (v : ℕ) → v < 64 → (1 * 2 ^ v) % 2 ^ 64 ≡ 2 ^ v
-one_shifted v h = shl_exact 1 v 64 (omega arith) (omega arith) ∙ omega arith
-
-pub one_some : (v bit : ℕ) → bit ≡ 2 ^ v → 1 ≤ bit
-one_some v bit e = omega (arith, pow_pos v)
-
--- and a bit is read by a shift and a mask.
+-- A bit is read by a shift and a mask.
 pub bit_read : (row v : ℕ) → eqb (bit_and (row / 2 ^ v) 1) 1 ≡ has row v
 unfolding has
 bit_read row v = ap (λ (b : ℕ). eqb b 1) (and_mask (row / 2 ^ v) 1)

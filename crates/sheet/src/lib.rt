@@ -7,7 +7,7 @@ use network::SIDE;
 // How many cells there are: a start for each vertex, and a row of labels for each.
 pub const CELLS: usize = SIDE + SIDE * SIDE;
 
-// A cell: the start of a vertex, which is its answer in the end, or the label from one vertex to another.
+// A cell: the start of a vertex, which is its answer in the end, or the label from one vertex to another. Vertices are plain numbers, over which the theorems of `truth` stand.
 #[derive(Clone, Copy)]
 pub enum Cell {
     Start(usize),

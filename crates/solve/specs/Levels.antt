@@ -4,7 +4,8 @@ use Rattle.std.proofs.Common.{sym, ap, ◌∙◌, arith, add-one, drop-cons, get
 use Rattle.std.proofs.Math.Seq.{drop-length}
 use Rattle.elimination.specs.Plan.{plan}
 use Rattle.network.specs.Network.{side}
-use Rattle.operations.specs.Runs.{Ready, Ran, ran_none, ran_then, ready_first, ready_second}
+use Rattle.operations.specs.Worksheets.{Able, Carried, carried_none, carried_then, able_first, able_second}
+use Rattle.operations.specs.declared.Worksheet.{Worksheet}
 use Rattle.rows.specs.Row.{excluding, vertices_excluding}
 use Rattle.rows.specs.Table.{near_row, near_are}
 use Rattle.rows.specs.Gone.{eliminated, eliminated_long, eliminated_gone}
@@ -34,10 +35,10 @@ module _ (links order : List ℕ) (n k : ℕ) (level : Level links order n k) wh
   no_pivots e = ap (λ (j : ℕ). drop j (take n order)) (e ∙ sym ordered) ∙ drop-length (take n order)
 
   -- nothing is to be done.
-  pub level_none : (p base rest : ℕ) → k ≡ n → {c o : List ℕ} {m : ℕ} → Ready p base (work (plan_from links rest order n k)) c o m
-      → Ran p base (plan_from links rest order n k) c o m c o m
+  pub level_none : (rest : ℕ) → k ≡ n → {w : Worksheet} {o : List ℕ} → Able (work (plan_from links rest order n k)) w o
+      → Carried (plan_from links rest order n k) w o w o
   unfolding plan_from plan
-  level_none p base rest e r = rw (no_pivots e) (ran_none p base r)
+  level_none rest e able = rw (no_pivots e) (carried_none able)
 
   pub level_same : k ≡ n → links ≡ links_after (pivots_from order n k) links
   unfolding links_after
@@ -78,7 +79,7 @@ module _ (links order : List ℕ) (n k : ℕ) (level : Level links order n k) wh
       level_after exit e = rw (next_pivot, ← is) (rw gone at e)
 
       -- What is asked: the pivot passed, the others, and the pivot answered.
-      module _ (p base rest near left : ℕ) (row : near ≡ near_row links rest pivot) (less : left ≡ excluding rest pivot) where
+      module _ (rest near left : ℕ) (row : near ≡ near_row links rest pivot) (less : left ≡ excluding rest pivot) where
         first : List Ask
         first = forward_in links near n pivot
 
@@ -93,35 +94,35 @@ module _ (links order : List ℕ) (n k : ℕ) (level : Level links order n k) wh
         whole =
             rw (next_pivot, ← is, gone, less, row, near_are links n rest pivot, vertices_excluding n rest pivot, eliminated_gone pivot links level.linked)
 
-        module _ {c₀ o₀ : List ℕ} {m₀ : ℕ} (ready : Ready p base (work (plan_from links rest order n k)) c₀ o₀ m₀) where
-          first_ready : Ready p base (work (forward_in links near n pivot)) c₀ o₀ m₀
+        module _ {w₀ : Worksheet} {o₀ : List ℕ} (able : Able (work (plan_from links rest order n k)) w₀ o₀) where
+          first_ready : Able (work (forward_in links near n pivot)) w₀ o₀
           unfolding first
-          first_ready = ready_first p base first (middle ++ last) (rw whole at ready)
+          first_ready = able_first first (middle ++ last) (rw whole at able)
 
-          module _ {c₁ o₁ : List ℕ} {m₁ : ℕ} (passed : Ran p base (forward_in links near n pivot) c₀ o₀ m₀ c₁ o₁ m₁) where
-            rest_ready : Ready p base (work (middle ++ last)) c₁ o₁ m₁
+          module _ {w₁ : Worksheet} {o₁ : List ℕ} (passed : Carried (forward_in links near n pivot) w₀ o₀ w₁ o₁) where
+            rest_ready : Able (work (middle ++ last)) w₁ o₁
             unfolding first
-            rest_ready = ready_second p base first (middle ++ last) (rw whole at ready) passed
+            rest_ready = able_second first (middle ++ last) (rw whole at able) passed
 
             -- Once it is passed, the others can be eliminated and answered,
-            pub level_ready : Ready p base (work (plan_from after left order n (k + 1))) c₁ o₁ m₁
+            pub level_ready : Able (work (plan_from after left order n (k + 1))) w₁ o₁
             unfolding middle
-            level_ready = ready_first p base middle last rest_ready
+            level_ready = able_first middle last rest_ready
 
-            module _ {c₂ o₂ : List ℕ} {m₂ : ℕ} (answered : Ran p base (plan_from after left order n (k + 1)) c₁ o₁ m₁ c₂ o₂ m₂) where
+            module _ {w₂ : Worksheet} {o₂ : List ℕ} (answered : Carried (plan_from after left order n (k + 1)) w₁ o₁ w₂ o₂) where
               -- then it can be answered,
-              pub level_last : Ready p base (work (backward_in near n pivot)) c₂ o₂ m₂
+              pub level_last : Able (work (backward_in near n pivot)) w₂ o₂
               unfolding middle last
-              level_last = ready_second p base middle last rest_ready answered
+              level_last = able_second middle last rest_ready answered
 
               -- and that is all.
-              pub level_done : {c₃ o₃ : List ℕ} {m₃ : ℕ} → Ran p base (backward_in near n pivot) c₂ o₂ m₂ c₃ o₃ m₃
-                  → Ran p base (plan_from links rest order n k) c₀ o₀ m₀ c₃ o₃ m₃
+              pub level_done : {w₃ : Worksheet} {o₃ : List ℕ} → Carried (backward_in near n pivot) w₂ o₂ w₃ o₃
+                  → Carried (plan_from links rest order n k) w₀ o₀ w₃ o₃
               unfolding first middle last
-              level_done r = rw whole (ran_then p base first (middle ++ last) passed (ran_then p base middle last answered r))
+              level_done r = rw whole (carried_then first (middle ++ last) passed (carried_then middle last answered r))
 
     -- It can be passed.
-    pub level_first : (pivot : ℕ) → pivot ≡ get_or order k 0 → (p base rest near : ℕ) → near ≡ near_row links rest pivot → {c o : List ℕ} {m : ℕ}
-        → Ready p base (work (plan_from links rest order n k)) c o m → Ready p base (work (forward_in links near n pivot)) c o m
-    level_first pivot is p base rest near row ready =
-        first_ready pivot is (eliminated pivot links) refl p base rest near (excluding rest pivot) row refl ready
+    pub level_first : (pivot : ℕ) → pivot ≡ get_or order k 0 → (rest near : ℕ) → near ≡ near_row links rest pivot → {w : Worksheet} {o : List ℕ}
+        → Able (work (plan_from links rest order n k)) w o → Able (work (forward_in links near n pivot)) w o
+    level_first pivot is rest near row able =
+        first_ready pivot is (eliminated pivot links) refl rest near (excluding rest pivot) row refl able

@@ -1,7 +1,10 @@
 -- Texts put one after another.
-use Rattle.std.specs.Prelude.{◌≡◌, refl, List, [], ◌∷◌, ◌++◌, ℕ, suc, ◌+◌, ◌/◌, ◌%◌, ◌<◌, ◌≤◌, length, get_or, set, drop}
-use Rattle.std.proofs.Common.{ap, sym, ◌∙◌, add-zero, add-one, arith, length-append, length-set, drop_of_length-le, drop-cons}
-use Rattle.std.proofs.lemmas.List.Edits.{sets}
+use Rattle.std.specs.Prelude.{◌≡◌, refl, List, [], ◌∷◌, ◌++◌, ℕ, suc, ◌+◌, ◌-◌, ◌/◌, ◌%◌, ◌<◌, ◌≤◌, length, set}
+use Rattle.std.proofs.Common.{ap, sym, ◌∙◌, arith, append_assoc, length-append}
+use Rattle.std.proofs.lemmas.List.{drop-drop}
+use Rattle.std.proofs.lemmas.List.Edits.{sets, sets-eq}
+use Rattle.std.proofs.Math.Seq.{length-sets}
+use borrow.Rule.Slice.PartMut.{put_mid}
 use Rattle.text.specs.Texts.{digit, decimal, pair_line}
 use Rattle.text.specs.Puts.{Puts}
 use Rattle.text.specs.Decimals.{decimal_one, decimal_more}
@@ -11,6 +14,14 @@ sets_append : (l : List ℕ) (i : ℕ) (vs ws : List ℕ) → sets l i (vs ++ ws
 sets_append l i [] ws = ap (λ (k : ℕ). sets l k ws) (omega arith)
 sets_append l i (v ∷ vs) ws =
     sets_append (set l i v) (suc i) vs ws ∙ ap (λ (k : ℕ). sets (sets (set l i v) (suc i) vs) k ws) (omega arith)
+
+-- A text copied over its part of a buffer.
+pub puts_copied : (text : List ℕ) (at : ℕ) (before copied : List ℕ) → at + length text ≤ length before → copied ≡ text
+    → Puts text at before (put_mid at (at + length text - at) before copied) (at + length text)
+puts_copied text at before copied h e =
+    let k : at + length text - at ≡ length text = omega arith in
+    let put : put_mid at (at + length text - at) before copied ≡ sets before at text = rw (e, k, sets-eq text before at h, drop-drop, append_assoc) in
+    record { end = refl; long = rw put (length-sets before at text); put = put }
 
 -- An equal text is put as well.
 pub puts_as : (x y : List ℕ) → x ≡ y → (at : ℕ) (before after : List ℕ) (r : ℕ) → Puts y at before after r → Puts x at before after r
@@ -83,19 +94,3 @@ module _ (whole : List ℕ) (at : ℕ) (before : List ℕ) where
 
   pub rest_done : (m : ℕ) (mid : List ℕ) → Rest whole at before [] m mid → Puts whole at before mid m
   rest_done m mid rest = record { end = omega (arith, rest.end); long = rest.long; put = rest.gives }
-
--- The loop of `put_text`: the bytes of the text one by one.
-module _ (text : List ℕ) (at : ℕ) (before : List ℕ) where
-  pub text_none : at + length text ≤ length before → Rest text at before text (at + 0) before
-  text_none h = rw add-zero (rest_none text at before h)
-
-  pub text_more : (i : ℕ) (mid : List ℕ) → Rest text at before (drop i text) (at + i) mid → i < length text
-      → Rest text at before (drop (i + 1) text) (at + (i + 1)) (set mid (at + i) (get_or text i 0))
-  text_more i mid rest h =
-      let b = get_or text i 0 in
-      let here : Rest text at before ((b ∷ []) ++ drop (i + 1) text) (at + i) mid = rw (add-one, ← drop-cons text i 0 h) rest in
-      rest_more text at before (b ∷ []) (drop (i + 1) text) (at + i) mid here (set mid (at + i) b) (at + (i + 1))
-      (record { end = omega arith; long = length-set mid (at + i) b; put = refl })
-
-  pub text_done : (i : ℕ) (mid : List ℕ) → Rest text at before (drop i text) (at + i) mid → length text ≤ i → Puts text at before mid (at + i)
-  text_done i mid rest h = rest_done text at before (at + i) mid (rw (drop_of_length-le text h) at rest)

@@ -1,4 +1,6 @@
 // Text put into a lent buffer: texts, numbers in decimal, and lines of the two.
+// Each function takes the buffer and a place: a struct that held the buffer would have to promise in each that it still holds the same one. And `write!` would answer a
+// `Result` at each line, for an error that a buffer with the room never gives, where `list` cannot fail.
 
 #![tactic(auto)]
 
@@ -11,12 +13,9 @@ pub fn put_text(out: &mut [u8], at: usize, text: &[u8]) -> usize
     requires { at + length text.now ≤ length out.old }
     ensures { Puts text.now at out.old out.new result }
 {
-    let mut i = 0;
-    while i < text.len() {
-        out[at + i] = text[i];
-        i += 1;
-    }
-    at + i
+    let end = at + text.len();
+    out[at..end].copy_from_slice(text);
+    end
 }
 
 // Puts a digit.
@@ -24,7 +23,7 @@ fn put_digit(out: &mut [u8], at: usize, d: usize) -> usize
     requires { (d < 10) × (at + 1 ≤ length out.old) }
     ensures { Puts (digit d) at out.old out.new result }
 {
-    out[at] = (48 + d) as u8;
+    out[at] = b'0' + d as u8;
     at + 1
 }
 

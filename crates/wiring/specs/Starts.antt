@@ -53,9 +53,6 @@ module _ (file : List ℕ) (parts : Sections) (sound : Sound edition file parts)
           long = length-set cells k x ∙ inv.long;
         })
 
-    pub started_all : parts.vertices ≤ k → Started parts.variables references (network_of file).starts cells parts.vertices
-    started_all h = let e : k ≡ parts.vertices = omega (arith, starts_length sound.layout, inv.within) in rw e at inv
-
   module _ (cells : List ℕ) (count : ℕ) (started : Started parts.variables references (network_of file).starts cells parts.vertices)
       (translates : Translating file parts references count) where
     pub started_held : Held parts.variables count cells

@@ -4,14 +4,13 @@
 
 ghost use Rattle.std.specs.Prelude.{◌≡◌, ◌+◌, ◌<◌, replicate};
 ghost use Rattle.form.specs.References.{formula};
-ghost use Rattle.network.specs.Layout.{Sound};
+ghost use Rattle.network.specs.Layout.{Within};
 ghost use Rattle.network.specs.Network.{edition, side, network_of};
-ghost use Rattle.records.specs.Bytes.{records_in};
+ghost use Rattle.records.specs.Entered.{Noted, Empty};
 ghost use Rattle.records.specs.Grown.{Table};
-ghost use Rattle.records.specs.Newest.{buckets, newest_of};
 ghost use Rattle.links.specs.Switches.{link, joins_at, no_links, links_of, joins_of};
 ghost use Rattle.sheet.specs.Cells.{cell_count};
-ghost use Rattle.operations.specs.Runs.{Ready, Runs};
+ghost use Rattle.operations.specs.Worksheets.{Able, Worked};
 ghost use Rattle.rows.specs.Table.{links_in};
 ghost use Rattle.analysis.specs.Wiring.{set_or_join, labelled, translate_switch, wire_all};
 ghost use Rattle.wiring.specs.Labels.{join_at, Labelling};
@@ -19,177 +18,128 @@ ghost use Rattle.wiring.specs.Switches.{Translating, Wirable, Wires};
 ghost use Rattle.wiring.specs.Starts.{Started};
 ghost use Rattle.wiring.specs.Sheet.{WiredIn};
 
-use form::Reference;
+use entries::Accepted;
+use form::{OR, Reference};
 use givens::GIVENS;
-use network::{SIDE, Sections, Switch};
-use records::BUCKETS;
-use sheet::{CELLS, Cell};
+use network::{SIDE, Switch};
+use operations::Worksheet;
+use sheet::Cell;
 
-// The label from u to v becomes r or, where the pair is linked, old or new; gives the number of records then.
+// The label from u to v becomes r or, where the pair is linked, old or new.
 fn set_or_join(
-    cells: &mut [u16; CELLS],
+    sheet: &mut Worksheet,
     out: &mut [u8],
-    newest: &mut [u16; BUCKETS],
-    base: usize,
-    p: usize,
-    count: usize,
     links: &[u64; SIDE],
     u: usize,
     v: usize,
     r: Reference,
-) -> usize
-    requires ready { Ready p base (join_at (links_in links.now) u v) cells.old out.old count }
-    requires u_lt_side { (u < side) × (v < side) × (r.number < formula p count) }
-    requires newest_value { newest.old ≡ newest_of (records_in out.old base count) }
-    ensures runs { Runs p base (set_or_join p (links_in links.now) u v r.number) (join_at (links_in links.now) u v) cells.old out.old count cells.new out.new result }
-    ensures newest_after { newest.new ≡ newest_of (records_in out.new base result) }
+)
+    requires able { Able (join_at (links_in links.now) u v) sheet.old out.old }
+    requires u_lt_side { (u < side) × (v < side) × (r.number < formula sheet.old.records.variables sheet.old.records.count) }
+    ensures { Worked (set_or_join sheet.old.records.variables (links_in links.now) u v r.number) (join_at (links_in links.now) u v) sheet.old out.old sheet.new out.new }
 {
+    let label = Cell::Label(u, v);
     if rows::has(links[u], v) {
-        let old = operations::held(cells, Cell::Label(u, v));
-        let m = records::make(out, newest, base, p, count, records::OR, old, r);
-        operations::put(cells, Cell::Label(u, v), m.reference);
-        return m.count;
+        let old = sheet.held(label);
+        let made = sheet.records.make(out, OR, old, r);
+        sheet.put(label, made);
+        return;
     }
-    operations::put(cells, Cell::Label(u, v), r);
-    count
+    sheet.put(label, r);
 }
 
 // Both labels of a switch whose references are translated: first end to second end, then back.
-fn set_labels(
-    cells: &mut [u16; CELLS],
-    out: &mut [u8],
-    newest: &mut [u16; BUCKETS],
-    base: usize,
-    p: usize,
-    count: usize,
-    links: &[u64; SIDE],
-    w: Switch,
-) -> usize
-    requires labelling { Labelling p base (links_in links.now) w cells.old out.old count }
-    requires newest_value { newest.old ≡ newest_of (records_in out.old base count) }
-    ensures runs { Runs p base (labelled p (links_in links.now) w) (joins_at w (links_in links.now)) cells.old out.old count cells.new out.new result }
-    ensures newest_after { newest.new ≡ newest_of (records_in out.new base result) }
+fn set_labels(sheet: &mut Worksheet, out: &mut [u8], links: &[u64; SIDE], w: Switch)
+    requires { Labelling (links_in links.now) w sheet.old out.old }
+    ensures { Worked (labelled sheet.old.records.variables (links_in links.now) w) (joins_at w (links_in links.now)) sheet.old out.old sheet.new out.new }
 {
     if w.first == w.second {
-        return count;
+        return;
     }
-    let a = w.first as usize;
-    let b = w.second as usize;
+    let a = usize::from(w.first);
+    let b = usize::from(w.second);
     let there = Reference { number: w.there };
     let back = Reference { number: w.back };
-    let n = set_or_join(cells, out, newest, base, p, count, links, a, b, there);
-    set_or_join(cells, out, newest, base, p, n, links, b, a, back)
+    set_or_join(sheet, out, links, a, b, there);
+    set_or_join(sheet, out, links, b, a, back);
 }
 
 // Wires a switch: its labels, translated, and the links of its ends.
 fn wire_switch(
     references: &[u16; GIVENS],
-    cells: &mut [u16; CELLS],
+    sheet: &mut Worksheet,
     links: &mut [u64; SIDE],
     out: &mut [u8],
-    newest: &mut [u16; BUCKETS],
-    base: usize,
-    p: usize,
-    count: usize,
     w: Switch,
-) -> usize
-    requires wirable { Wirable p base references.now cells.old links.old out.old count w }
-    requires newest_value { newest.old ≡ newest_of (records_in out.old base count) }
-    ensures wires { Wires p base (labelled p (links_in links.old) (translate_switch p references.now w)) (joins_at w (links_in links.old)) (link w (links_in links.old)) cells.old out.old count cells.new links.new out.new result }
-    ensures newest_after { newest.new ≡ newest_of (records_in out.new base result) }
+)
+    requires { Wirable references.now sheet.old links.old out.old w }
+    ensures { Wires (labelled sheet.old.records.variables (links_in links.old) (translate_switch sheet.old.records.variables references.now w)) (joins_at w (links_in links.old)) (link w (links_in links.old)) sheet.old out.old sheet.new links.new out.new }
 {
+    let p = sheet.records.variables;
     let there = givens::translated(references, p, w.there);
     let back = givens::translated(references, p, w.back);
     let t = Switch {
-        first: w.first,
-        second: w.second,
         there: there.number,
         back: back.number,
+        ..w
     };
-    let n = set_labels(cells, out, newest, base, p, count, links, t);
+    set_labels(sheet, out, links, t);
     rows::connect(links, w);
-    n
 }
 
 // Wires all switches of an accepted file, in order.
 fn wire_switches(
-    file: &[u8],
-    parts: Sections,
+    net: &Accepted<'_>,
     references: &[u16; GIVENS],
-    cells: &mut [u16; CELLS],
+    sheet: &mut Worksheet,
     links: &mut [u64; SIDE],
     out: &mut [u8],
-    newest: &mut [u16; BUCKETS],
-    base: usize,
-    count: usize,
-) -> usize
-    requires sound { Sound edition file.now parts }
-    requires translating { Translating file.now parts references.now count }
+)
+    requires within { Within edition net.now.parts }
+    requires variables { sheet.old.records.variables ≡ net.now.parts.variables }
+    requires translating { Translating net.now.file.now net.now.parts references.now sheet.old.records.count }
     requires links_value { links.old ≡ replicate side 0 }
-    requires ready { Ready parts.variables base (joins_of (network_of file.now).switches) cells.old out.old count }
-    requires newest_value { newest.old ≡ newest_of (records_in out.old base count) }
-    ensures wires { Wires parts.variables base (wire_all (network_of file.now) no_links (network_of file.now).switches) (joins_of (network_of file.now).switches) (links_of (network_of file.now).switches) cells.old out.old count cells.new links.new out.new result }
-    ensures newest_after { newest.new ≡ newest_of (records_in out.new base result) }
+    requires able { Able (joins_of (network_of net.now.file.now).switches) sheet.old out.old }
+    ensures { Wires (wire_all (network_of net.now.file.now) no_links (network_of net.now.file.now).switches) (joins_of (network_of net.now.file.now).switches) (links_of (network_of net.now.file.now).switches) sheet.old out.old sheet.new links.new out.new }
 {
-    let p = parts.variables;
-    let switches = parts.switches;
-    let mut n = count;
-    let mut k = 0;
-    while k < switches {
-        let w = entries::switch_of(file, parts, k);
-        n = wire_switch(references, cells, links, out, newest, base, p, n, w);
-        k += 1;
+    for k in 0..net.parts.switches {
+        wire_switch(references, sheet, links, out, net.switch(k));
     }
-    n
 }
 
 // Puts the starts of an accepted file, translated, into their cells.
-fn put_starts(file: &[u8], parts: Sections, references: &[u16; GIVENS], cells: &mut [u16; CELLS])
-    requires sound { Sound edition file.now parts }
-    requires cells_value { cells.old ≡ replicate cell_count 0 }
-    ensures { Started parts.variables references.now (network_of file.now).starts cells.new parts.vertices }
+fn put_starts(net: &Accepted<'_>, references: &[u16; GIVENS], sheet: &mut Worksheet)
+    requires within { Within edition net.now.parts }
+    requires cells_value { sheet.old.cells ≡ replicate cell_count 0 }
+    ensures started { Started net.now.parts.variables references.now (network_of net.now.file.now).starts sheet.new.cells net.now.parts.vertices }
+    ensures records { sheet.new.records ≡ sheet.old.records }
 {
-    let p = parts.variables;
-    let count = parts.vertices;
-    let mut v = 0;
-    while v < count {
-        let start = entries::start_of(file, parts, v);
-        let r = givens::translated(references, p, start);
-        operations::put(cells, Cell::Start(v), r);
-        v += 1;
+    for v in 0..net.parts.vertices {
+        let start = net.start(v);
+        let r = givens::translated(references, net.parts.variables, start);
+        sheet.put(Cell::Start(v), r);
     }
 }
 
-// Makes the sheet of an accepted file: its cells, the records that these refer to, and the links of the switches; gives the number of records.
+// Makes the sheet of an accepted file: its cells, the records that these refer to, and the links of the switches.
 pub fn wire_sheet(
-    file: &[u8],
-    parts: Sections,
-    cells: &mut [u16; CELLS],
+    net: &Accepted<'_>,
+    sheet: &mut Worksheet,
     links: &mut [u64; SIDE],
     out: &mut [u8],
-    newest: &mut [u16; BUCKETS],
-    base: usize,
-) -> usize
-    requires sound { Sound edition file.now parts }
-    requires cells_value { cells.old ≡ replicate cell_count 0 }
+)
+    requires within { Within edition net.now.parts }
+    requires cells_value { sheet.old.cells ≡ replicate cell_count 0 }
+    requires empty { Empty net.now.parts.variables sheet.old.records }
     requires links_value { links.old ≡ replicate side 0 }
-    requires table { Table parts.variables base (parts.givens + joins_of (network_of file.now).switches) 0 out.old }
-    requires newest_value { newest.old ≡ replicate buckets 0 }
-    ensures wired_in { WiredIn file.now parts base out.old cells.new links.new out.new result }
-    ensures newest_after { newest.new ≡ newest_of (records_in out.new base result) }
+    requires table { Table net.now.parts.variables sheet.old.records.base (net.now.parts.givens + joins_of (network_of net.now.file.now).switches) 0 out.old }
+    ensures wired_in { WiredIn net.now.file.now net.now.parts sheet.old.records.base out.old sheet.new.cells links.new out.new sheet.new.records.count }
+    ensures noted { Noted sheet.new.records out.new }
+    ensures base { sheet.new.records.base ≡ sheet.old.records.base }
+    ensures variables { sheet.new.records.variables ≡ sheet.old.records.variables }
 {
     let mut references = [0; GIVENS];
-    let count = givens::pass_givens(file, parts, &mut references, out, newest, base);
-    put_starts(file, parts, &references, cells);
-    wire_switches(
-        file,
-        parts,
-        &references,
-        cells,
-        links,
-        out,
-        newest,
-        base,
-        count,
-    )
+    givens::pass_givens(net, &mut references, &mut sheet.records, out);
+    put_starts(net, &references, sheet);
+    wire_switches(net, &references, sheet, links, out);
 }

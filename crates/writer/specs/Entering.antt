@@ -1,7 +1,8 @@
 -- The loops that write a section entry by entry, and the ways out of the functions that write.
-use Rattle.std.specs.Prelude.{◌≡◌, get_or}
+use Rattle.std.specs.Prelude.{◌≡◌, get_or, take, map}
 use Rattle.std.proofs.Math.Path.{refl, ap, sym}
-use Rattle.std.proofs.Common.{◌∙◌, arith, mul-zero, add-one, drop-cons}
+use Rattle.std.proofs.Common.{◌∙◌, arith, mul-zero, add-one, drop-cons, get_or-take, length-take-le, ext_get_or}
+use Rattle.std.proofs.lemmas.List.{get_or-map, length-map, take-map}
 use mathlib.Core.List.{List, [], ◌∷◌, ◌++◌, flat_map}
 use Prim.Native.Nat.{ℕ, suc, ◌+◌, ◌*◌, ◌<◌, ◌≤◌}
 use Rattle.std.proofs.Math.Nat.{mul-suc}
@@ -14,12 +15,15 @@ use Rattle.network.specs.Layout.{Layout, coil_place}
 use Rattle.network.specs.Lists.{variable_at}
 use Rattle.network.specs.Network.{side, network_of}
 use Rattle.network.specs.declared.Sections.{Sections}
+use Rattle.plan.specs.Plans.{none_taken}
 use Rattle.plan.specs.declared.Plan.{Plan}
+use Rattle.plan.specs.declared.Taken.{Taken}
 use Rattle.sheet.specs.Cells.{cells_in, cell_at}
 use Rattle.sheet.specs.declared.Cell.{Cell}
 use Rattle.sheet.specs.declared.Cell.TheVariants.{Start}
-use Rattle.links.specs.ListLaws.{vertex_at}
-use Rattle.writer.specs.Last.{answers_in, step_at, steps_in, figures_in, last_numbers, records_at, answers_at, steps_at, figures_at, Fits, Finished}
+use Rattle.links.specs.ListLaws.{vertex_at, vertices_long}
+use Rattle.links.specs.Lists.{vertices}
+use Rattle.writer.specs.Last.{answers_in, step_of, step_at, steps_in, figures_in, last_numbers, records_at, answers_at, steps_at, figures_at, Finished}
 use Rattle.writer.specs.Lengths.{answers_section, steps_section}
 
 -- The first k of n entries, of so many bytes each, are written from a place on: those that are left give the whole.
@@ -68,18 +72,14 @@ module _ (s : List ℕ) (parts : Sections) (layout : Layout s parts) (before : L
   variables_more after k inv h x e next w =
       entering_more single 2 parts.variables (network_of s).variables 2 before after k inv h 0 x (variable_at layout k h ∙ sym e) refl next w
 
--- An answer.
-pub puts_answer : (cells : List ℕ) (v : ℕ) → v < side → (s t : List ℕ) (at : ℕ) → t ≡ put_word s at (get_or cells v 0)
-    → t ≡ put_word s at (cells_in cells (Start v))
-puts_answer cells v h s t at a = a ∙ ap (put_word s at) (cell_at cells (Start v) h)
-
 -- The loop of `write_answers`.
-module _ (cells : Cell → ℕ) (n at : ℕ) (before : List ℕ) where
-  pub answers_more : (after : List ℕ) (v : ℕ) → Entering single 2 n (answers_in cells n) at before after v → v < n
-      → (next : List ℕ) → next ≡ put_word after (at + 2 * v) (cells (Start v)) → Entering single 2 n (answers_in cells n) at before next (v + 1)
-  unfolding put_numbers answers_in
+module _ (answers : List ℕ) (at : ℕ) (before : List ℕ) where
+  pub answers_more : (after : List ℕ) (v : ℕ) → Entering single 2 (length answers) answers at before after v → v < length answers
+      → (next : List ℕ) → next ≡ put_word after (at + 2 * v) (get_or answers v 0)
+      → Entering single 2 (length answers) answers at before next (v + 1)
+  unfolding put_numbers
   answers_more after v inv h next w =
-      entering_more single 2 n (answers_in cells n) at before after v inv h 0 (cells (Start v)) (vertex_at (λ u. cells (Start u)) n v 0 h) refl next w
+      entering_more single 2 (length answers) answers at before after v inv h 0 (get_or answers v 0) refl refl next w
 
 -- A step.
 pub puts_step : (s t u : List ℕ) (at vertex degree : ℕ) → t ≡ put_word s at vertex → u ≡ put_word t (at + 2) degree
@@ -88,22 +88,13 @@ unfolding put_numbers
 puts_step s t u at vertex degree a b = cc
 
 -- The loop of `write_steps`.
-module _ (found : Plan) (n at : ℕ) (before : List ℕ) where
-  pub steps_more : (after : List ℕ) (k : ℕ) → Entering step_entry 4 n (steps_in found n) at before after k → k < n
-      → (next : List ℕ) → next ≡ put_numbers after (at + 4 * k) (get_or found.order k 0 ∷ get_or found.degrees k 0 ∷ [])
-      → Entering step_entry 4 n (steps_in found n) at before next (k + 1)
-  unfolding steps_in
+module _ (taken : List Taken) (at : ℕ) (before : List ℕ) where
+  pub steps_more : (after : List ℕ) (k : ℕ) → Entering step_entry 4 (length taken) (map step_of taken) at before after k → k < length taken
+      → (next : List ℕ) → next ≡ put_numbers after (at + 4 * k) (step_entry (step_of (get_or taken k none_taken)))
+      → Entering step_entry 4 (length taken) (map step_of taken) at before next (k + 1)
   steps_more after k inv h next w =
-      entering_more step_entry 4 n (steps_in found n) at before after k inv h (step_at found k) (step_at found k)
-      (vertex_at (step_at found) n k (step_at found k) h) refl next w
-
--- The numbers of a step.
-module _ (found : Plan) (n : ℕ) (fits : Fits found n) (k : ℕ) (h : k < n) where
-  pub vertex_fits : get_or found.order k 0 < 65536
-  vertex_fits = fits.vertex k h
-
-  pub degree_fits : get_or found.degrees k 0 < 65536
-  degree_fits = fits.degree k h
+      entering_more step_entry 4 (length taken) (map step_of taken) at before after k inv h (step_of none_taken) (step_of (get_or taken k none_taken))
+      (get_or-map step_of taken k none_taken _ h) refl next w
 
 -- The figures.
 pub puts_figures : (s t u v w : List ℕ) (at givens : ℕ) (found : Plan) → t ≡ put_word s at 3 → u ≡ put_word t (at + 2) givens
@@ -114,6 +105,29 @@ puts_figures s t u v w at givens found a b c d =
     let two : at + 2 + 2 ≡ at + 4 = omega arith in
     let three : at + 4 + 2 ≡ at + 6 = omega arith in
     rw (two, three) cc
+
+-- The entries of the first n vertices are the first n of a list that has them.
+first_are : {A : Type 0} (f : ℕ → A) (xs : List A) (d : A) (n : ℕ) → n ≤ length xs → ((k : ℕ) → k < n → get_or xs k d ≡ f k)
+    → map f (vertices n) ≡ take n xs
+first_are f xs d n h e =
+    let l : length (take n xs) ≡ n = length-take-le n xs h in
+    let m : length (map f (vertices n)) ≡ n = vertices_long f n in
+    ext_get_or d (map f (vertices n)) (take n xs) (m ∙ sym l)
+    (λ k i. let i : k < n = omega (arith, m) in vertex_at f n k d i ∙ sym (get_or-take n xs k d i ∙ e k i))
+
+-- The answers are the first cells,
+pub answers_first : (cells : List ℕ) (n : ℕ) → n ≤ side → n ≤ length cells → answers_in (cells_in cells) n ≡ take n cells
+unfolding answers_in
+answers_first cells n few h =
+    first_are (λ v. cells_in cells (Start v)) cells 0 n h (λ v i. cell_at cells (Start v) (omega arith))
+
+-- and the order the first steps of a plan.
+pub steps_first : (found : Plan) (n : ℕ) → n ≤ length found.steps → steps_in found n ≡ map step_of (take n found.steps)
+unfolding steps_in
+steps_first found n h =
+    first_are (step_at found) (map step_of found.steps) (step_of none_taken) n (omega (arith, length-map found.steps step_of))
+    (λ k i. get_or-map step_of found.steps k none_taken _ (omega arith))
+    ∙ take-map step_of n found.steps
 
 -- The parts of `finish`: each section is after the one before.
 pub finished : (parts : Sections) (found : Plan) (cells : Cell → ℕ) (count : ℕ) (before counted answered stepped after : List ℕ)

@@ -1,11 +1,13 @@
 -- The sections of a result after its records, in the terms that the program has: the counts of the file, its plan and the cells.
-use Rattle.std.specs.Prelude.{◌≡◌, List, [], ◌∷◌, ◌++◌, map, ℕ, ◌+◌, ◌*◌, ◌<◌, get_or}
+use Rattle.std.specs.Prelude.{◌≡◌, List, [], ◌∷◌, ◌++◌, map, ℕ, ◌+◌, ◌*◌, ◌<◌, length, get_or}
 use Rattle.analysis.specs.Result.{section, single, step_entry}
 use Rattle.form.specs.Numbers.{put_word, put_numbers}
 use Rattle.links.specs.Lists.{vertices}
 use Rattle.links.specs.Links.{Step}
 use Rattle.network.specs.declared.Sections.{Sections}
+use Rattle.plan.specs.Plans.{none_taken}
 use Rattle.plan.specs.declared.Plan.{Plan}
+use Rattle.plan.specs.declared.Taken.{Taken}
 use Rattle.sheet.specs.declared.Cell.{Cell}
 use Rattle.sheet.specs.declared.Cell.TheVariants.{Start}
 
@@ -13,9 +15,13 @@ use Rattle.sheet.specs.declared.Cell.TheVariants.{Start}
 unfoldable pub answers_in : (Cell → ℕ) → ℕ → List ℕ
 answers_in cells n = map (λ v. cells (Start v)) (vertices n)
 
--- A plan's step k: the vertex and its degree.
+-- A step as the definition has it,
+abbrev pub step_of : Taken → Step
+step_of t = record { vertex = t.vertex; degree = t.degree }
+
+-- and a plan's step k: the vertex and its degree.
 abbrev pub step_at : Plan → ℕ → Step
-step_at found k = record { vertex = get_or found.order k 0; degree = get_or found.degrees k 0 }
+step_at found k = step_of (get_or found.steps k none_taken)
 
 -- A plan's first n steps.
 unfoldable pub steps_in : Plan → ℕ → List Step
@@ -48,10 +54,15 @@ figures_at parts count = steps_at parts count + 2 + 4 * parts.vertices
 abbrev pub result_length : Sections → ℕ → ℕ
 result_length parts count = 16 + 2 * parts.variables + 6 * count + 6 * parts.vertices
 
+-- The vertex and the degree of each step are 16-bit numbers.
+pub record StepsFit (steps : List Taken) : Type 0 where
+  pub vertex : (k : ℕ) → k < length steps → (get_or steps k none_taken).vertex < 65536
+  pub degree : (k : ℕ) → k < length steps → (get_or steps k none_taken).degree < 65536
+
 -- The first n steps and the figures of a plan are 16-bit numbers.
 pub record Fits (found : Plan) (n : ℕ) : Type 0 where
-  pub vertex : (k : ℕ) → k < n → get_or found.order k 0 < 65536
-  pub degree : (k : ℕ) → k < n → get_or found.degrees k 0 < 65536
+  pub vertex : (k : ℕ) → k < n → (get_or found.steps k none_taken).vertex < 65536
+  pub degree : (k : ℕ) → k < n → (get_or found.steps k none_taken).degree < 65536
   pub joins : found.joins < 65536
   pub work : found.work < 65536
 

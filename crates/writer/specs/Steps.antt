@@ -1,15 +1,14 @@
 -- The steps that a plan lists are the definition's, and fit into 16 bits.
-use Rattle.std.specs.Prelude.{◌≡◌, refl, not, ℕ, zero, suc, ◌<◌, ◌≤◌, eqb}
+use Rattle.std.specs.Prelude.{◌≡◌, not, ℕ, zero, suc, ◌<◌, ◌≤◌, eqb}
 use Rattle.std.proofs.Math.Path.{ap, sym}
 use Rattle.std.proofs.Common.{◌∙◌, arith}
-use mathlib.Core.List.{List, [], ◌∷◌, map}
-use Rattle.std.proofs.Math.ListN.{length, get_or, get_or-map}
-use Rattle.std.proofs.lemmas.List.{length-map}
+use mathlib.Core.List.{List, [], ◌∷◌}
+use Rattle.std.proofs.Math.ListN.{length, get_or}
 use Rattle.std.proofs.Math.Seq.{ext_get_or}
 use Rattle.links.specs.Lists.{without, vertices}
 use Rattle.links.specs.Links.{Graph, Step, beside, gone, order, steps}
 use Rattle.links.specs.ListLaws.{keep_shorter, up_to_length, vertex_at}
-use Rattle.links.specs.OrderLaws.{order_length}
+use Rattle.links.specs.OrderLaws.{order_length, steps_length}
 use Rattle.links.specs.Switches.{links_of}
 use Rattle.network.specs.Layout.{Layout, Within}
 use Rattle.network.specs.Lists.{starts_length}
@@ -18,14 +17,9 @@ use Rattle.network.specs.declared.Sections.{Sections}
 use Rattle.plan.specs.declared.Plan.{Plan}
 use Rattle.plan.specs.Plans.{degrees_of, plan_in}
 use Rattle.plan.proofs.Measure.{edition_most}
-use Rattle.plan.specs.PlanLaws.{order_at_lem, degree_at, order_inside}
-use Rattle.writer.specs.Last.{step_at, steps_in, Fits}
+use Rattle.plan.specs.PlanLaws.{taken_at, degree_at, order_inside}
+use Rattle.writer.specs.Last.{step_of, step_at, steps_in, Fits}
 use Rattle.writer.specs.Lengths.{steps_long}
-
--- The vertices of the steps are the order.
-vertices_of_lem : (g : Graph) (vs ps : List ℕ) → map (λ s. s.vertex) (steps g vs ps) ≡ ps
-vertices_of_lem g vs [] = refl
-vertices_of_lem g vs (p ∷ ps) = ap (λ (qs : List ℕ). p ∷ qs) (vertices_of_lem (gone p g) (without p vs) ps)
 
 -- No degree is above the number of vertices.
 degrees_most : (g : Graph) (vs ps : List ℕ) (k : ℕ) → get_or (degrees_of (steps g vs ps)) k 0 ≤ length vs
@@ -35,26 +29,20 @@ degrees_most g vs (p ∷ ps) (suc k) =
     omega (arith, degrees_most (gone p g) (without p vs) ps k, keep_shorter (λ v. not (eqb p v)) vs)
 
 module _ (net : Network) (found : Plan) (e : found ≡ plan_in net) where
-  -- The definition's own steps: their vertices, each of them, and how many they are.
+  -- The definition's own steps: each of them, and how many they are.
   own : List Step
   own = steps (links_of net.switches) (vertices (length net.starts)) (order (length net.starts) (links_of net.switches))
 
-  own_vertices : map (λ (s : Step). s.vertex) own ≡ order (length net.starts) (links_of net.switches)
-  unfolding own
-  own_vertices = vertices_of_lem (links_of net.switches) (vertices (length net.starts)) _
-
   own_at : (k : ℕ) → k < length net.starts → step_at found k ≡ get_or own k (record { vertex = 0; degree = 0 })
   unfolding own
-  own_at k h =
-      let none : Step = record { vertex = 0; degree = 0 } in
-      let v = order_at_lem net found e k h ∙ sym (ap (λ (qs : List ℕ). get_or qs k 0) own_vertices) ∙ get_or-map (λ (s : Step). s.vertex) own k none in
-      let d = degree_at net found e k h ∙ get_or-map (λ (s : Step). s.degree) own k none in
-      λ i. record { vertex = v i; degree = d i }
+  own_at k h = ap step_of (taken_at net found e k h)
 
   own_long : length own ≡ length net.starts
   unfolding own
   own_long =
-      sym (length-map own (λ s. s.vertex)) ∙ ap (λ (qs : List ℕ). length qs) own_vertices ∙ order_length (length net.starts) (links_of net.switches)
+      let n = length net.starts in
+      let g = links_of net.switches in
+      steps_length g (vertices n) (order n g) ∙ order_length n g
 
   -- The plan lists just these.
   pub steps_are : steps_in found (length net.starts)

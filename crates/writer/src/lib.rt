@@ -2,17 +2,17 @@
 
 #![tactic(auto)]
 
-ghost use Rattle.std.specs.Prelude.{◌≡◌, [], ◌∷◌, ◌+◌, ◌*◌, ◌<◌, ◌≤◌, length};
+ghost use Rattle.std.specs.Prelude.{◌≡◌, [], ◌∷◌, ◌+◌, ◌*◌, ◌<◌, ◌≤◌, length, map};
 ghost use Rattle.analysis.specs.Result.{section, single, step_entry};
 ghost use Rattle.form.specs.Numbers.{put_word, put_numbers};
-ghost use Rattle.network.specs.Layout.{Layout, Within};
-ghost use Rattle.network.specs.Network.{edition, side, network_of};
+ghost use Rattle.network.specs.Layout.{Within};
+ghost use Rattle.network.specs.Network.{edition, network_of};
 ghost use Rattle.sheet.specs.Cells.{cells_in};
-ghost use Rattle.sheet.specs.declared.Cell.TheVariants.{Start};
-ghost use Rattle.writer.specs.Last.{answers_in, steps_in, figures_in, result_length, Fits, Finished};
+ghost use Rattle.writer.specs.Last.{step_of, figures_in, result_length, StepsFit, Fits, Finished};
 
+use entries::Accepted;
 use network::Sections;
-use plan::Plan;
+use plan::{Plan, Taken};
 use sheet::CELLS;
 
 // Writes a number that fits 16 bits.
@@ -24,64 +24,49 @@ fn put_number(out: &mut [u8], at: usize, n: usize)
 }
 
 // Writes the variables of an accepted file, as given.
-pub fn write_variables(file: &[u8], parts: Sections, out: &mut [u8])
-    requires layout { Layout file.now parts }
-    requires within { Within edition parts }
-    requires variables_in_bounds { 2 + 2 * parts.variables ≤ length out.old }
-    ensures { out.new ≡ put_numbers out.old 0 (section single (network_of file.now).variables) }
+pub fn write_variables(net: &Accepted<'_>, out: &mut [u8])
+    requires within { Within edition net.now.parts }
+    requires variables_in_bounds { 2 + 2 * net.now.parts.variables ≤ length out.old }
+    ensures { out.new ≡ put_numbers out.old 0 (section single (network_of net.now.file.now).variables) }
 {
-    let count = parts.variables;
+    let count = net.parts.variables;
     put_number(out, 0, count);
-    let mut k = 0;
-    while k < count {
-        let coil = entries::variable_of(file, parts, k);
-        form::put_word(out, 2 + 2 * k, coil);
-        k += 1;
+    for k in 0..count {
+        form::put_word(out, 2 + 2 * k, net.variable(k));
     }
 }
 
-// Writes the answer of a vertex, which its start has become.
-fn write_answer(cells: &[u16; CELLS], v: usize, at: usize, out: &mut [u8])
-    requires { (v < side) × (at + 2 ≤ length out.old) }
-    ensures { out.new ≡ put_word out.old at (cells_in cells.now (Start v)) }
-{
-    let answer = cells[v];
-    form::put_word(out, at, answer);
-}
-
 // Writes the answer of each vertex.
-fn write_answers(cells: &[u16; CELLS], n: usize, at: usize, out: &mut [u8])
-    requires { (n ≤ side) × (at + 2 + 2 * n ≤ length out.old) }
-    ensures { out.new ≡ put_numbers out.old at (section single (answers_in (cells_in cells.now) n)) }
+#[tactic(auto, using(crate::specs::Entering::entering_none, crate::specs::Entering::entering_done, crate::specs::Entering::answers_more))]
+fn write_answers(answers: &[u16], at: usize, out: &mut [u8])
+    requires { (length answers.now < 65536) × (at + 2 + 2 * length answers.now ≤ length out.old) }
+    ensures { out.new ≡ put_numbers out.old at (section single answers.now) }
 {
-    put_number(out, at, n);
-    let mut v = 0;
-    while v < n {
-        write_answer(cells, v, at + 2 + 2 * v, out);
-        v += 1;
+    put_number(out, at, answers.len());
+    for (v, answer) in answers.iter().enumerate() {
+        form::put_word(out, at + 2 + 2 * v, *answer);
     }
 }
 
 // Writes a step: the vertex, and its degree when it is taken.
-fn write_step(vertex: usize, degree: usize, at: usize, out: &mut [u8])
-    requires { (vertex < 65536) × (degree < 65536) × (at + 4 ≤ length out.old) }
-    ensures { out.new ≡ put_numbers out.old at (vertex ∷ degree ∷ []) }
+fn write_step(step: Taken, at: usize, out: &mut [u8])
+    requires { (step.vertex < 65536) × (step.degree < 65536) × (at + 4 ≤ length out.old) }
+    ensures { out.new ≡ put_numbers out.old at (step.vertex ∷ step.degree ∷ []) }
 {
-    put_number(out, at, vertex);
-    put_number(out, at + 2, degree);
+    put_number(out, at, step.vertex);
+    put_number(out, at + 2, step.degree);
 }
 
-// Writes the order: the first n steps of a plan.
-fn write_steps(found: Plan, n: usize, at: usize, out: &mut [u8])
-    requires n_le_side { (n ≤ side) × (at + 2 + 4 * n ≤ length out.old) }
-    requires fits { Fits found n }
-    ensures { out.new ≡ put_numbers out.old at (section step_entry (steps_in found n)) }
+// Writes the order.
+#[tactic(auto, using(crate::specs::Entering::entering_none, crate::specs::Entering::entering_done))]
+fn write_steps(steps: &[Taken], at: usize, out: &mut [u8])
+    requires room { (length steps.now < 65536) × (at + 2 + 4 * length steps.now ≤ length out.old) }
+    requires fit { StepsFit steps.now }
+    ensures { out.new ≡ put_numbers out.old at (section step_entry (map step_of steps.now)) }
 {
-    put_number(out, at, n);
-    let mut k = 0;
-    while k < n {
-        write_step(found.order[k], found.degrees[k], at + 2 + 4 * k, out);
-        k += 1;
+    put_number(out, at, steps.len());
+    for (k, step) in steps.iter().enumerate() {
+        write_step(*step, at + 2 + 4 * k, out);
     }
 }
 
@@ -115,8 +100,9 @@ pub fn finish(
     let steps_at = answers_at + 2 + 2 * n;
     let figures_at = steps_at + 2 + 4 * n;
     put_number(out, records_at, count);
-    write_answers(cells, n, answers_at, out);
-    write_steps(found, n, steps_at, out);
+    // Each start has become its vertex's answer.
+    write_answers(&cells[..n], answers_at, out);
+    write_steps(&found.steps[..n], steps_at, out);
     write_figures(parts.givens, found, figures_at, out);
     figures_at + 8
 }

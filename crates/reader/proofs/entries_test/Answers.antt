@@ -1,16 +1,22 @@
--- `reader::entries_test` meets its contract: the entries that are left give the verdict on all.
+-- The entries that are left give the verdict on all.
 use Rattle.std.proofs.Common.{arith}
-use Rattle.reader.proofs.Reading.{stop_cut, stop_wrong, go_on, done}
+use Rattle.std.proofs.lemmas.Result.{err_from_is_err_and}
+use Rattle.reader.proofs.Reading.{none, stop_cut, stop_wrong, go_on, done}
 use Rattle.reader.proofs.entries_test.Goals as goal
 
-pub returns-then-s-place : goal.returns-then-s-place
-returns-then-s-place c = stop_cut c.loop-k.invariant (omega arith) (omega arith)
+pub loop-k-init : goal.loop-k-init
+loop-k-init g c = none _ _ _ _ _ (omega arith) (omega arith)
 
-pub returns-in-Wrong : goal.returns-in-Wrong
-returns-in-Wrong c = stop_wrong c.loop-k.invariant (omega arith) (omega arith) c.in-Wrong.ensures
+pub returns-then-s-place : goal.returns-then-s-place
+returns-then-s-place g c = stop_cut _ _ _ _ _ _ _ c.loop-k.invariant (omega arith) (omega arith)
+
+pub returns-in_err-test : goal.returns-in_err-test
+returns-in_err-test g c =
+    let p = err_from_is_err_and c.from_residual.result c.from_residual.ensures.1 in
+    rw (p.1, p.2) (stop_wrong _ _ _ _ _ _ _ c.loop-k.invariant (omega arith) (omega arith) (omega arith) _ c.in_err-test.ensures)
 
 pub loop-k-preserved : goal.loop-k-preserved
-loop-k-preserved c = go_on c.loop-k.invariant (omega arith) (omega arith) c.in-Fine.ensures
+loop-k-preserved g c = go_on _ _ _ _ _ _ _ c.loop-k.invariant (omega arith) (omega arith) (omega arith) _ c.in_ok-test.ensures
 
 pub returns : goal.returns
-returns c = done c.loop-k.invariant (omega arith)
+returns g c = done _ _ _ _ _ _ _ c.loop-k.invariant (omega arith)

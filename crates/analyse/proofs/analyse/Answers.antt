@@ -1,0 +1,16 @@
+-- Refused by the reader, or analysed.
+use Rattle.std.proofs.Common.{rules}
+use Rattle.std.proofs.lemmas.Result.{err_from_is_err_and}
+use Rattle.reader.specs.Callers.{reads_accepted, reads_sound}
+use Rattle.analyse.specs.Promise.{analyse_unread}
+use Rattle.analyse.proofs.analyse.Goals as goal
+
+pub returns-in_err-parts : goal.returns-in_err-parts
+returns-in_err-parts c =
+    let p = err_from_is_err_and c.from_residual.result c.from_residual.ensures.1 in
+    rw (p.1, p.2) (analyse_unread _ _ _ _ c.in_err-parts.was c.check_network.ensures.result_value)
+
+pub answer-requires : goal.answer-requires
+answer-requires c =
+    let sound = reads_sound _ _ _ c.in_ok-parts.was c.check_network.ensures.result_value in
+    record { parts_value = search (reads_accepted, rules); within = sound.within }

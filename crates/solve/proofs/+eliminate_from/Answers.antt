@@ -1,0 +1,37 @@
+-- The laws of a level: no pivot is left, or one is passed, the others are eliminated and answered, and then it is answered.
+use Rattle.std.proofs.Common.{refl, rules}
+use Rattle.solve.specs.Levels.{level_none, level_same, level_falls, level_next, level_after, level_first, level_ready, level_last, level_done}
+use Rattle.solve.proofs.+eliminate_from.Goals as goal
+
+pub returns-then-k-n-clause-carried : goal.returns-then-k-n-clause-carried
+returns-then-k-n-clause-carried t c = search (level_none, rules)
+
+pub returns-then-k-n-clause-links_value : goal.returns-then-k-n-clause-links_value
+returns-then-k-n-clause-links_value t c = search (level_same, rules)
+
+pub forward-requires : goal.forward-requires
+forward-requires t c = level_first _ _ _ _ c.requires.level c.if-k-n.false _ refl _ _ c.near.ensures c.requires.able
+
+pub eliminate_from-requires : goal.eliminate_from-requires
+eliminate_from-requires t c = (
+  search (level_falls, rules),
+  (
+    level_ready _ _ _ _ c.requires.level c.if-k-n.false _ refl _ c.eliminate.ensures _ _ _ c.near.ensures c.excluding-left.ensures c.requires.able
+        c.forward.ensures,
+    level_next _ _ _ _ c.requires.level c.if-k-n.false _ refl _ c.eliminate.ensures,
+  ),
+)
+
+pub backward-requires : goal.backward-requires
+backward-requires t c =
+    level_last _ _ _ _ c.requires.level c.if-k-n.false _ refl _ c.eliminate.ensures _ _ _ c.near.ensures c.excluding-left.ensures c.requires.able
+    c.forward.ensures c.eliminate_from.ensures.carried
+
+pub returns-clause-carried : goal.returns-clause-carried
+returns-clause-carried t c =
+    level_done _ _ _ _ c.requires.level c.if-k-n.false _ refl _ c.eliminate.ensures _ _ _ c.near.ensures c.excluding-left.ensures c.requires.able
+    c.forward.ensures c.eliminate_from.ensures.carried c.backward.ensures
+
+pub returns-clause-links_value : goal.returns-clause-links_value
+returns-clause-links_value t c =
+    level_after _ _ _ _ c.requires.level c.if-k-n.false _ refl _ c.eliminate.ensures _ c.eliminate_from.ensures.links_value
