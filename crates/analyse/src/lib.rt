@@ -2,15 +2,14 @@
 
 #![tactic(auto)]
 
-ghost use Rattle.std.specs.Prelude.{◌≡◌, ◌+◌, replicate};
+ghost use Rattle.std.specs.Prelude.{◌≡◌, ◌+◌};
 ghost use Rattle.form.specs.Refusals.{accepted};
 ghost use Rattle.network.specs.Layout.{Within, network_answer};
 ghost use Rattle.network.specs.Network.{edition, network_of};
+ghost use Rattle.operations.specs.Worksheets.{Blank};
 ghost use Rattle.plan.specs.Measure.{operations_of};
 ghost use Rattle.plan.specs.Plans.{plan_in};
-ghost use Rattle.records.specs.Entered.{Empty};
 ghost use Rattle.records.specs.Grown.{Table};
-ghost use Rattle.sheet.specs.Cells.{cell_count};
 ghost use Rattle.writer.specs.Whole.{Whole};
 ghost use Rattle.analyse.specs.Solved.{SolvedIn};
 ghost use Rattle.analyse.specs.Filled.{Fillable};
@@ -21,20 +20,17 @@ use form::Fault;
 use network::SIDE;
 use operations::Worksheet;
 use plan::Plan;
-use records::Records;
-use sheet::CELLS;
 
 // Wires an accepted file and carries its plan out, the records in place.
 fn solved(net: &Accepted<'_>, found: Plan, sheet: &mut Worksheet, out: &mut [u8])
     requires within { Within edition net.now.parts }
     requires found_value { found ≡ plan_in (network_of net.now.file.now) }
-    requires cells_value { sheet.old.cells ≡ replicate cell_count 0 }
-    requires empty { Empty net.now.parts.variables sheet.old.records }
+    requires blank { Blank net.now.parts.variables sheet.old }
     requires table { Table net.now.parts.variables sheet.old.records.base (net.now.parts.givens + operations_of found) 0 out.old }
     ensures { SolvedIn net.now.file.now net.now.parts found sheet.old.records.base out.old sheet.new.cells out.new sheet.new.records.count }
 {
     let mut links = [0; SIDE];
-    wiring::wire_sheet(net, sheet, &mut links, out);
+    wiring::wire_sheet(net, sheet, out, &mut links);
     let rest = rows::all(net.parts.vertices);
     let order = found.order();
     solve::eliminate_from(sheet, out, &mut links, rest, &order, net.parts.vertices, 0);
@@ -47,10 +43,7 @@ fn fill(net: &Accepted<'_>, found: Plan, out: &mut [u8]) -> usize
 {
     writer::write_variables(net, out);
     let variables = net.parts.variables;
-    let mut sheet = Worksheet {
-        cells: [0; CELLS],
-        records: Records::empty(4 + 2 * variables, variables),
-    };
+    let mut sheet = Worksheet::empty(4 + 2 * variables, variables);
     solved(net, found, &mut sheet, out);
     writer::finish(net.parts, found, &sheet.cells, sheet.records.count, out)
 }

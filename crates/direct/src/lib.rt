@@ -16,7 +16,7 @@ ghost use Rattle.direct.specs.Promise.{Promise};
 
 use entries::Accepted;
 use form::Fault;
-use network::{SIDE, Sections, Switch};
+use network::{SIDE, Switch};
 use values::PLACES;
 
 // An accepted file of this edition, and the values of its references under a setting.
@@ -67,6 +67,7 @@ impl Valued<'_> {
     fn spread(&self, marks: &mut [bool; SIDE])
         ensures { Spread (value_in self.now.values) (network_of self.now.net.file.now).switches marks.old marks.new }
     {
+        // How often is not known before, so no range says it; the 1 is for the sweep that is to come.
         let mut new = 1;
         while new != 0 {
             new = self.sweep(marks);

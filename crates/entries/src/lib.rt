@@ -9,7 +9,7 @@ ghost use Rattle.network.specs.Layout.{Layout, coil_place, GivenRead, StartRead,
 use form::Record;
 use network::{Sections, Switch};
 
-// The bytes of an accepted file, and its sections, which lie where its counts say. No limits are part of it: its entries are read at those of any edition.
+// The bytes of an accepted file, and its sections, which lie where its counts say. No limits are part of it: its entries are read at those of any edition, and a second type, with this one's, would be one more step in every path of a clause.
 #[derive(Clone, Copy)]
 pub struct Accepted<'a> {
     pub file: &'a [u8],

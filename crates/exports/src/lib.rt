@@ -1,4 +1,4 @@
-// The doors to C and Rust: the product's functions under C names. A reply crosses as a number.
+// The doors to C and Rust: the product's functions under C names. A reply crosses as a number, by casts that are proved to lose nothing.
 
 #![tactic(auto)]
 

@@ -28,7 +28,7 @@ pub struct Record {
 }
 
 // A reference: a constant, a variable, or a given formula or record.
-#[derive(Debug, Clone, Copy, PartialEq, Eq)]
+#[derive(Debug, Clone, Copy, PartialEq, Eq, PartialOrd, Ord)]
 pub struct Reference {
     pub number: u16,
 }
@@ -45,6 +45,7 @@ impl Reference {
         requires { variable index < 65536 }
         ensures { result.number ≡ variable index }
     {
+        // A cast that is proved to lose nothing: `try_from` would answer an error that never comes.
         Reference {
             number: (2 + index) as u16,
         }

@@ -18,7 +18,7 @@ use records::Records;
 // The most given formulas.
 pub const GIVENS: usize = 500;
 
-// A file's reference as the result's, where the array has what each given formula has become.
+// A file's reference as the result's, where the array has what each given formula has become. The variables go beside it, as the file and the records have their number.
 #[tactic(auto, using(crate::specs::Passing::translate_low, crate::specs::Passing::translate_high))]
 pub fn translated(references: &[u16; GIVENS], p: usize, r: u16) -> Reference
     requires { (p ≤ edition.variables) × (r < formula p edition.givens) }

@@ -103,7 +103,7 @@ trait Entry {
         ensures { Puts (line number self) at out.old out.new result };
 }
 
-// A pivot's vertex, and its degree when it was taken.
+// A pivot's vertex, and its degree when it was taken, as the 16-bit numbers that they are in a result.
 #[derive(Clone, Copy)]
 struct Pivot {
     vertex: u16,
@@ -139,7 +139,7 @@ impl Entry for Pivot {
     }
 }
 
-// A kind's text.
+// A kind's text; the kinds stay numbers, as in `form`.
 fn kind_text(kind: u16) -> &'static [u8]
     ensures { result.now ≡ kind_text kind }
 {

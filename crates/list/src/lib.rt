@@ -26,6 +26,7 @@ fn put_refused(f: Fault, out: &mut [u8]) -> usize
     requires { length (refused_line (number_of f) (place_of f)) ≤ length out.old }
     ensures { Puts (refused_line (number_of f) (place_of f)) 0 out.old out.new result }
 {
+    // There is no `From` for this cast; it is proved to lose nothing.
     let number = f.number() as usize;
     let place = f.place();
     text::put_pair(out, 0, b"refused ", number, b" at ", place)
@@ -48,6 +49,7 @@ fn list_accepted(net: &Accepted<'_>, out: &mut [u8]) -> usize
     let mut bytes = [0; RESULT_ROOM];
     match analysed(net.file, &mut bytes) {
         Err(f) => put_refused(f, out),
+        // A result says itself, by its counts, how much of the room it takes.
         Ok(_) => lines::put_result(net.parts.switches, &bytes, out),
     }
 }

@@ -28,7 +28,7 @@ pub struct Switch {
     pub back: u16,
 }
 
-// The counts of an accepted file, and the places of the counts after the first.
+// The counts of an accepted file, and the places of the counts after the first. Each is a field of its own, as the layout and the laws on places name them.
 #[derive(Clone, Copy)]
 pub struct Sections {
     pub variables: usize,

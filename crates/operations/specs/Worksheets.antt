@@ -1,15 +1,21 @@
 -- The program's worksheet in a buffer: what a function over it asks, and what it promises.
-use Rattle.std.specs.Prelude.{◌≡◌, refl, cond, List, [], ◌∷◌, ◌++◌, ℕ, ◌+◌, ◌≤◌, ◌<◌}
+use Rattle.std.specs.Prelude.{◌≡◌, refl, cond, List, [], ◌∷◌, ◌++◌, ℕ, ◌+◌, ◌≤◌, ◌<◌, replicate}
 use Rattle.std.proofs.Common.{ap, ◌∙◌}
 use mathlib.Core.List.{flat_map}
 use Rattle.links.specs.Lists.{vertices}
-use Rattle.records.specs.Entered.{Noted}
+use Rattle.records.specs.Entered.{Noted, Empty}
 use Rattle.records.specs.Grown.{grown_then}
 use Rattle.sheet.specs.Asks.{work}
+use Rattle.sheet.specs.Cells.{cell_count}
 use Rattle.sheet.specs.Perform.{Sheet, perform}
 use Rattle.sheet.specs.declared.Ask.{Ask}
 use Rattle.operations.specs.declared.Worksheet.{Worksheet}
 use Rattle.operations.specs.Runs.{Ready, Runs, Ran, ready_less, ready_after, ready_one, ran_none, ran_then, ready_first, ready_second, Looping, looping_none, looping_turn, looping_more, looping_all}
+
+-- Every cell holds constant false, and there are no records yet; they are numbered after so many variables.
+pub record Blank (p : ℕ) (w : Worksheet) : Type 0 where
+  pub cells : w.cells ≡ replicate cell_count 0
+  pub records : Empty p w.records
 
 -- There is room for so many more records, and every cell holds a reference that is there; the newest records are noted.
 pub record Able (more : ℕ) (w : Worksheet) (out : List ℕ) : Type 0 where

@@ -7,7 +7,7 @@ ghost use Rattle.network.specs.Network.{side};
 ghost use Rattle.sheet.specs.Cells.{cells_in, place_of, Inside};
 ghost use Rattle.sheet.specs.declared.Cell.TheVariants.{Label};
 ghost use Rattle.operations.specs.Ways.{Placed};
-ghost use Rattle.operations.specs.Worksheets.{Able, Carried};
+ghost use Rattle.operations.specs.Worksheets.{Blank, Able, Carried};
 
 use form::{AND, OR, Reference};
 use network::SIDE;
@@ -41,6 +41,17 @@ pub struct Worksheet {
 }
 
 impl Worksheet {
+    // A sheet with nothing on it yet: where its records will begin, and after how many variables they will be numbered.
+    pub fn empty(base: usize, variables: usize) -> Worksheet
+        ensures base { result.records.base ≡ base }
+        ensures blank { Blank variables result }
+    {
+        Worksheet {
+            cells: [0; CELLS],
+            records: Records::empty(base, variables),
+        }
+    }
+
     // The reference that a cell holds.
     #[tactic(auto, using(crate::specs::Ways::reads_cell))]
     pub fn held(&self, c: Cell) -> Reference

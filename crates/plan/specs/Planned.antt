@@ -38,9 +38,17 @@ pub record Steps (links : List ℕ) (rest n : ℕ) (links' : List ℕ) (r : Step
   pub graph : links_in links' ≡ gone r.taken.vertex (links_in links)
   pub long : length links' ≡ side
 
--- The neighbours of the pivot are among n vertices too.
+-- All are among n vertices,
+pub first_below : (n row : ℕ) → row ≡ all_of n → row < 2 ^ n
+first_below n row e = rw e (all_few n)
+
+-- the neighbours of a vertex are among them too,
 pub near_below : (links : List ℕ) (rest n p near : ℕ) → rest < 2 ^ n → near ≡ near_row links rest p → near < 2 ^ n
 near_below links rest n p near few e = rw e (near_few links n rest few p)
+
+-- and so are those that are left without a vertex.
+pub excluding_below : (rest n v left : ℕ) → rest < 2 ^ n → left ≡ excluding rest v → left < 2 ^ n
+excluding_below rest n v left few e = rw e (omega (arith, excluding_most rest v))
 
 -- What the parts of a step say.
 pub steps_are : (links : List ℕ) (rest n : ℕ) → length links ≡ side → (t : Taken) → Takes links rest n t → (near work : ℕ)
@@ -87,7 +95,7 @@ module _ (n : ℕ) (few : n ≤ side) where
         worked = rw (all, sub-zero) (omega arith);
         most = omega arith;
         long = l;
-        few = rw e (all_few n);
+        few = first_below n rest e;
       }
 
   module _ (g : Graph) (links : List ℕ) (rest : ℕ) (taken : List Taken) (sum k : ℕ) (inv : Planning g n links rest taken sum k) where
@@ -119,7 +127,7 @@ module _ (n : ℕ) (few : n ≤ side) where
           worked = rw (less, step.graph, step.work) (omega (arith, plan_work g' vs p ps, rw now at inv.worked));
           most = omega (arith, inv.most, step.most);
           long = step.long;
-          few = rw left (omega (arith, excluding_most rest p, inv.few));
+          few = excluding_below rest n p rest' inv.few left;
         }
 
     pub planning_more : k < n → (links' : List ℕ) (t : Stepped) → Steps links rest n links' t → (rest' : ℕ)

@@ -7,8 +7,8 @@ ghost use Rattle.std.specs.Prelude.{◌≡◌, ◌+◌, ◌^◌, ◌<◌, ◌≤
 ghost use Rattle.elimination.specs.WorkLaws.{pivot_work};
 ghost use Rattle.network.specs.Network.{side, edition, network_of};
 ghost use Rattle.network.specs.Layout.{Within};
-ghost use Rattle.rows.specs.Row.{vertices_in};
-ghost use Rattle.rows.specs.Table.{links_in};
+ghost use Rattle.rows.specs.Row.{vertices_in, excluding, all_of};
+ghost use Rattle.rows.specs.Table.{links_in, near_row};
 ghost use Rattle.plan.specs.Work.{neighbour_asked, neighbour_most, pivot_most};
 ghost use Rattle.plan.specs.Scan.{turn, Takes};
 ghost use Rattle.plan.specs.Wire.{Wired};
@@ -33,18 +33,6 @@ fn neighbour_work(links: &[u64; SIDE], near: u64, v: usize) -> usize
     }
 }
 
-// The work at a pivot with these neighbours, among n vertices.
-fn pivot_work(links: &[u64; SIDE], near: u64, n: usize) -> usize
-    requires { (n ≤ side) × (near < 2 ^ n) }
-    ensures { (result ≡ pivot_work (links_in links.now) (vertices_in n near)) × (result ≤ pivot_most) }
-{
-    let mut work = 0;
-    for v in 0..n {
-        work += neighbour_work(links, near, v);
-    }
-    work
-}
-
 // A vertex, and its degree.
 #[derive(Clone, Copy)]
 pub struct Taken {
@@ -67,21 +55,97 @@ fn tried(links: &[u64; SIDE], rest: u64, v: usize, best: Taken) -> Taken
     best
 }
 
-// Rule M: the lowest remaining vertex with the fewest neighbours.
-#[tactic(auto, using(crate::specs::Scan::scanning_none, crate::specs::Scan::scanning_more, crate::specs::Scan::scanning_all))]
-fn pivot(links: &[u64; SIDE], rest: u64, n: usize) -> Taken
-    requires { (n ≤ side) × (rest < 2 ^ n) × (0 < length (vertices_in n rest)) }
-    ensures { Takes links.now rest n result }
-{
-    // Any degree is below this one. With an `Option` in its place, `None` would have an arm that is never reached.
-    let mut best = Taken {
-        vertex: 0,
-        degree: SIDE + 1,
-    };
-    for v in 0..n {
-        best = tried(links, rest, v, best);
+// A step of the elimination: the pivot with its degree when it is taken, and its work.
+#[derive(Clone, Copy)]
+pub struct Stepped {
+    pub taken: Taken,
+    pub work: usize,
+}
+
+// A row of vertices, among the first so many.
+#[derive(Clone, Copy)]
+struct Vertices {
+    row: u64,
+    among: usize,
+    ghost few: { among ≤ side },
+    ghost inside: { row < 2 ^ among },
+}
+
+impl Vertices {
+    // The first so many, all of them.
+    #[tactic(auto, using(crate::specs::Planned::first_below))]
+    fn first(among: usize) -> Vertices
+        requires { among ≤ side }
+        ensures { (result.row ≡ all_of among) × (result.among ≡ among) }
+    {
+        Vertices {
+            row: rows::all(among),
+            among,
+        }
     }
-    best
+
+    // Those that are neighbours of p.
+    #[tactic(auto, using(crate::specs::Planned::near_below))]
+    fn near(self, links: &[u64; SIDE], p: usize) -> Vertices
+        requires { p < side }
+        ensures { (result.row ≡ near_row links.now self.row p) × (result.among ≡ self.among) }
+    {
+        Vertices {
+            row: rows::near(links, self.row, p),
+            among: self.among,
+        }
+    }
+
+    // All but v.
+    #[tactic(auto, using(crate::specs::Planned::excluding_below))]
+    fn excluding(self, v: usize) -> Vertices
+        requires { v < side }
+        ensures { (result.row ≡ excluding self.row v) × (result.among ≡ self.among) }
+    {
+        Vertices {
+            row: rows::excluding(self.row, v),
+            among: self.among,
+        }
+    }
+
+    // The work at a pivot with these neighbours.
+    fn work(self, links: &[u64; SIDE]) -> usize
+        ensures { (result ≡ pivot_work (links_in links.now) (vertices_in self.among self.row)) × (result ≤ pivot_most) }
+    {
+        let mut work = 0;
+        for v in 0..self.among {
+            work += neighbour_work(links, self.row, v);
+        }
+        work
+    }
+
+    // Rule M: the lowest remaining vertex with the fewest neighbours.
+    #[tactic(auto, using(crate::specs::Scan::scanning_none, crate::specs::Scan::scanning_more, crate::specs::Scan::scanning_all))]
+    fn pivot(self, links: &[u64; SIDE]) -> Taken
+        requires { 0 < length (vertices_in self.among self.row) }
+        ensures { Takes links.now self.row self.among result }
+    {
+        // Any degree is below this one. With an `Option` in its place, `None` would have an arm that is never reached.
+        let mut best = Taken {
+            vertex: 0,
+            degree: SIDE + 1,
+        };
+        for v in 0..self.among {
+            best = tried(links, self.row, v, best);
+        }
+        best
+    }
+
+    // Takes the next vertex by rule M.
+    fn step(self, links: &mut [u64; SIDE]) -> Stepped
+        requires { 0 < length (vertices_in self.among self.row) }
+        ensures { Steps links.old self.row self.among links.new result }
+    {
+        let taken = self.pivot(links);
+        let work = self.near(links, taken.vertex).work(links);
+        rows::eliminate(links, taken.vertex);
+        Stepped { taken, work }
+    }
 }
 
 // Links the ends of every switch of an accepted file; gives the joins.
@@ -113,39 +177,20 @@ impl Plan {
     }
 }
 
-// A step of the elimination: the pivot with its degree when it is taken, and its work.
-#[derive(Clone, Copy)]
-pub struct Stepped {
-    pub taken: Taken,
-    pub work: usize,
-}
-
-// Takes the next vertex by rule M.
-#[tactic(auto, using(crate::specs::Planned::near_below, crate::specs::Planned::steps_are))]
-fn step(links: &mut [u64; SIDE], rest: u64, n: usize) -> Stepped
-    requires { (n ≤ side) × (rest < 2 ^ n) × (0 < length (vertices_in n rest)) }
-    ensures { Steps links.old rest n links.new result }
-{
-    let taken = pivot(links, rest, n);
-    let work = pivot_work(links, rows::near(links, rest, taken.vertex), n);
-    rows::eliminate(links, taken.vertex);
-    Stepped { taken, work }
-}
-
 // Eliminates n vertices by rule M, one by one.
 fn eliminate_all(links: &mut [u64; SIDE], n: usize, joins: usize) -> Plan
     requires { n ≤ side }
     ensures { result ≡ plan_for n (links_in links.old) joins }
 {
-    let mut rest = rows::all(n);
+    let mut rest = Vertices::first(n);
     let mut steps = [Taken {
         vertex: 0,
         degree: 0,
     }; SIDE];
     let mut work = 0;
     for k in 0..n {
-        let now = step(links, rest, n);
-        rest = rows::excluding(rest, now.taken.vertex);
+        let now = rest.step(links);
+        rest = rest.excluding(now.taken.vertex);
         steps[k] = now.taken;
         work += now.work;
     }

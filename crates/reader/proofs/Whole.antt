@@ -1,9 +1,8 @@
 -- The verdict on a section, from its count and its entries; and what a section that was read tells.
-use Rattle.std.specs.Prelude.{Result, Ok, Err, IsErrAnd}
+use Rattle.std.specs.Prelude.{Result, Ok, Err}
 use Rattle.std.proofs.Common.{◌≡◌, List, ℕ, ◌+◌, ◌<◌, ◌≤◌, length, arith}
-use Rattle.std.proofs.lemmas.Result.{err_from_is_err_and}
 use Rattle.form.specs.Numbers.{word_at}
-use Rattle.form.specs.Refusals.{Verdict, fine, fault, Answer, refused, answer, answer_of, number_of, place_of}
+use Rattle.form.specs.Refusals.{Verdict, fine, fault, refused, answer, number_of, place_of}
 use Rattle.form.specs.Verdicts.{accepts, refuses}
 use Rattle.form.specs.declared.Fault.{Fault}
 use Rattle.network.specs.Faults.{entries_fault, section_fault}
@@ -40,8 +39,3 @@ module _ (limit size : ℕ) (test : List ℕ → ℕ → ℕ → Verdict) (s : L
   -- or its fault is.
   pub stopped : {r : Result ℕ Fault} {f : Fault} → r ≡ Err f → Count r → fault (number_of f) (place_of f) ≡ section_fault limit size test s at
   stopped e c = refuses _ _ _ _ (rw e at c.is)
-
--- A fault that is passed on refuses.
-pub refusing : {A : Type 0} {a : Answer A} (r : Result A Fault) (f : Fault) → IsErrAnd r (λ e. e ≡ f) → refused (number_of f) (place_of f) ≡ a
-    → answer_of r ≡ a
-refusing r f h e = let p = err_from_is_err_and r h in rw (p.1, p.2) e

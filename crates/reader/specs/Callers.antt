@@ -1,5 +1,6 @@
 -- What a caller learns from the reader's answer.
-use Rattle.std.specs.Prelude.{◌≡◌, List, ℕ, Result, Ok, Err}
+use Rattle.std.specs.Prelude.{◌≡◌, List, ℕ, Result, Ok, Err, IsErrAnd}
+use Rattle.std.proofs.lemmas.Result.{err_from_is_err_and}
 use Rattle.form.specs.declared.Fault.{Fault}
 use Rattle.form.specs.Refusals.{fault, accepted, number_of, place_of}
 use Rattle.form.specs.Verdicts.{refuses}
@@ -9,6 +10,10 @@ use Rattle.network.specs.Layout.{Sound, sections_of, network_answer}
 use Rattle.network.specs.Network.{edition}
 use Rattle.network.specs.Ranges.{sound}
 use Rattle.reader.specs.Answers.{checked_of}
+
+-- A fault that is passed on is the result.
+pub passed_on : {A : Type 0} (r : Result A Fault) (f : Fault) → IsErrAnd r (λ e. e ≡ f) → r ≡ Err f
+passed_on r f h = let p = err_from_is_err_and r h in rw (p.1, p.2)
 
 module _ (s : List ℕ) (r : Result Sections Fault) where
   -- The file is refused,

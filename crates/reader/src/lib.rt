@@ -14,7 +14,7 @@ ghost use Rattle.reader.specs.Tests.{Callable, Finds};
 use form::{AND, Fault, NOT, OR};
 use network::{Limits, SIDE, Sections};
 
-// A coil number is above the one before.
+// A coil number is above the one before. This test and those below take the bytes and a place, since a fault names its place.
 #[tactic(auto, unfolding(network::specs::Faults::coil_fault))]
 fn coil_test(s: &[u8], at: usize, k: usize) -> Result<(), Fault>
     requires { (2 ≤ at) × (at + 2 ≤ length s.now) }
@@ -49,7 +49,7 @@ fn below(s: &[u8], at: usize, limit: usize, fault: Fault) -> Result<(), Fault>
     Ok(())
 }
 
-// What the second argument is below: 1 for not, and else the formula's own reference.
+// What the second argument is below: 1 for not, and else the formula's own reference. The kind has been read as a number, and an unknown one is a fault of its own.
 #[tactic(auto, unfolding(network::specs::Faults::second_below))]
 fn second_below(kind: u16, own: usize) -> usize
     ensures { result ≡ second_below kind own }
@@ -96,13 +96,12 @@ fn entries_test<F: Fn(usize, usize) -> Result<(), Fault>>(
     requires callable { Callable size s.now (F.pre test) }
     ensures { (verdict : List ℕ → ℕ → ℕ → Verdict) → Finds size s.now (F.post test) verdict → verdict_of result ≡ entries_test size verdict s.now at 0 count }
 {
-    let mut place = at;
     for k in 0..count {
+        let place = at + size * k;
         if s.len() - place < size {
             return Err(Fault::Cut(place));
         }
         test(place, k)?;
-        place += size;
     }
     Ok(())
 }

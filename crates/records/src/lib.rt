@@ -34,7 +34,7 @@ fn larger(x: Record) -> u16
     x.first.max(x.second)
 }
 
-// The place after the record that the larger argument names, 0 where it names none.
+// The place after the record that the larger argument names; where it names none, the first place, 0, at which an unbounded search ends.
 fn place_after(p: usize, x: Record) -> usize
     ensures { result ≡ place_after p x }
 {
@@ -99,7 +99,7 @@ fn absorbed(kind: u16, a: Reference, b: Reference, x: Record) -> Reference
     if (kind == OR) == (x.kind == OR) { b } else { a }
 }
 
-// The records of a result: where they begin, how many there are, after how many variables they are numbered, and the newest of each bucket. The bytes are in the buffer that is lent beside.
+// The records of a result: where they begin, how many there are, after how many variables they are numbered, and the newest of each bucket. The bytes are in the buffer that is lent beside: a struct that held it would have to promise in every function that it still holds the same one.
 #[derive(Drop)]
 pub struct Records {
     pub base: usize,
@@ -108,6 +108,7 @@ pub struct Records {
     pub newest: [u16; BUCKETS],
 }
 
+// That a reference is there is asked of each rule, and is no fact of a type, since it depends on how many records there are. Kind, a and b are the rules' own words.
 impl Records {
     // No records yet: where they will begin, and after how many variables they will be numbered.
     pub fn empty(base: usize, variables: usize) -> Records
@@ -168,6 +169,7 @@ impl Records {
         }
         let count = self.count;
         put_record(out, self.base + 6 * count, x);
+        // A cast that is proved to lose nothing.
         self.newest[bucket(x)] = (count + 1) as u16;
         self.count = count + 1;
         Reference::of(self.variables + count)
@@ -251,7 +253,7 @@ impl Records {
         if kind == NOT {
             return self.negate(out, a);
         }
-        if a.number <= b.number {
+        if a <= b {
             return self.combine(out, kind, a, b);
         }
         self.combine(out, kind, b, a)

@@ -1,5 +1,5 @@
 // Links as a row of bits for each vertex: row u has the vertices that u is linked to. A set of vertices is such a row too.
-// A vertex is a plain number, as in the definitions, so each function asks that it is below the width.
+// A vertex is a plain number, and each function asks that it is below the width: a type for it would have to be unwrapped at every loop, table and definition.
 
 #![tactic(auto)]
 
@@ -61,6 +61,7 @@ pub fn all(n: usize) -> u64
 pub fn size(row: u64) -> usize
     ensures { (result ≡ ones row) × (result ≤ 64) }
 {
+    // There is no `From` for this cast; it is proved to lose nothing.
     row.count_ones() as usize
 }
 

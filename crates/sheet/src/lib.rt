@@ -7,7 +7,7 @@ use network::SIDE;
 // How many cells there are: a start for each vertex, and a row of labels for each.
 pub const CELLS: usize = SIDE + SIDE * SIDE;
 
-// A cell: the start of a vertex, which is its answer in the end, or the label from one vertex to another. Vertices are plain numbers, over which the theorems of `truth` stand.
+// A cell: the start of a vertex, which is its answer in the end, or the label from one vertex to another. Vertices are plain numbers: a variant can't hold a fact, and a type for them would have to be unwrapped in every definition.
 #[derive(Clone, Copy)]
 pub enum Cell {
     Start(usize),

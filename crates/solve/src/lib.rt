@@ -13,7 +13,7 @@ use network::SIDE;
 use operations::Worksheet;
 use sheet::{Ask, Cell};
 
-// A pivot among the first so many vertices, and the row of its neighbours.
+// A pivot among the first so many vertices, and the row of its neighbours. The links go beside it, since they change while it waits for its answer.
 #[derive(Clone, Copy)]
 struct Pivot {
     vertex: usize,

@@ -23,6 +23,7 @@ fn put_digit(out: &mut [u8], at: usize, d: usize) -> usize
     requires { (d < 10) × (at + 1 ≤ length out.old) }
     ensures { Puts (digit d) at out.old out.new result }
 {
+    // A cast that is proved to lose nothing.
     out[at] = b'0' + d as u8;
     at + 1
 }

@@ -6,11 +6,11 @@ ghost use Rattle.std.specs.Prelude.{◌≡◌, ◌+◌, ◌<◌, replicate};
 ghost use Rattle.form.specs.References.{formula};
 ghost use Rattle.network.specs.Layout.{Within};
 ghost use Rattle.network.specs.Network.{edition, side, network_of};
-ghost use Rattle.records.specs.Entered.{Noted, Empty};
+ghost use Rattle.records.specs.Entered.{Noted};
 ghost use Rattle.records.specs.Grown.{Table};
 ghost use Rattle.links.specs.Switches.{link, joins_at, no_links, links_of, joins_of};
 ghost use Rattle.sheet.specs.Cells.{cell_count};
-ghost use Rattle.operations.specs.Worksheets.{Able, Worked};
+ghost use Rattle.operations.specs.Worksheets.{Blank, Able, Worked};
 ghost use Rattle.rows.specs.Table.{links_in};
 ghost use Rattle.analysis.specs.Wiring.{set_or_join, labelled, translate_switch, wire_all};
 ghost use Rattle.wiring.specs.Labels.{join_at, Labelling};
@@ -35,7 +35,8 @@ fn set_or_join(
     r: Reference,
 )
     requires able { Able (join_at (links_in links.now) u v) sheet.old out.old }
-    requires u_lt_side { (u < side) × (v < side) × (r.number < formula sheet.old.records.variables sheet.old.records.count) }
+    requires inside { (u < side) × (v < side) }
+    requires r_below { r.number < formula sheet.old.records.variables sheet.old.records.count }
     ensures { Worked (set_or_join sheet.old.records.variables (links_in links.now) u v r.number) (join_at (links_in links.now) u v) sheet.old out.old sheet.new out.new }
 {
     let label = Cell::Label(u, v);
@@ -68,8 +69,8 @@ fn set_labels(sheet: &mut Worksheet, out: &mut [u8], links: &[u64; SIDE], w: Swi
 fn wire_switch(
     references: &[u16; GIVENS],
     sheet: &mut Worksheet,
-    links: &mut [u64; SIDE],
     out: &mut [u8],
+    links: &mut [u64; SIDE],
     w: Switch,
 )
     requires { Wirable references.now sheet.old links.old out.old w }
@@ -92,8 +93,8 @@ fn wire_switches(
     net: &Accepted<'_>,
     references: &[u16; GIVENS],
     sheet: &mut Worksheet,
-    links: &mut [u64; SIDE],
     out: &mut [u8],
+    links: &mut [u64; SIDE],
 )
     requires within { Within edition net.now.parts }
     requires variables { sheet.old.records.variables ≡ net.now.parts.variables }
@@ -103,7 +104,7 @@ fn wire_switches(
     ensures { Wires (wire_all (network_of net.now.file.now) no_links (network_of net.now.file.now).switches) (joins_of (network_of net.now.file.now).switches) (links_of (network_of net.now.file.now).switches) sheet.old out.old sheet.new links.new out.new }
 {
     for k in 0..net.parts.switches {
-        wire_switch(references, sheet, links, out, net.switch(k));
+        wire_switch(references, sheet, out, links, net.switch(k));
     }
 }
 
@@ -125,12 +126,11 @@ fn put_starts(net: &Accepted<'_>, references: &[u16; GIVENS], sheet: &mut Worksh
 pub fn wire_sheet(
     net: &Accepted<'_>,
     sheet: &mut Worksheet,
-    links: &mut [u64; SIDE],
     out: &mut [u8],
+    links: &mut [u64; SIDE],
 )
     requires within { Within edition net.now.parts }
-    requires cells_value { sheet.old.cells ≡ replicate cell_count 0 }
-    requires empty { Empty net.now.parts.variables sheet.old.records }
+    requires blank { Blank net.now.parts.variables sheet.old }
     requires links_value { links.old ≡ replicate side 0 }
     requires table { Table net.now.parts.variables sheet.old.records.base (net.now.parts.givens + joins_of (network_of net.now.file.now).switches) 0 out.old }
     ensures wired_in { WiredIn net.now.file.now net.now.parts sheet.old.records.base out.old sheet.new.cells links.new out.new sheet.new.records.count }
@@ -141,5 +141,5 @@ pub fn wire_sheet(
     let mut references = [0; GIVENS];
     givens::pass_givens(net, &mut references, &mut sheet.records, out);
     put_starts(net, &references, sheet);
-    wire_switches(net, &references, sheet, links, out);
+    wire_switches(net, &references, sheet, out, links);
 }

@@ -3,6 +3,7 @@ use Rattle.std.specs.Prelude.{◌≡◌, get_or, take, map}
 use Rattle.std.proofs.Math.Path.{refl, ap, sym}
 use Rattle.std.proofs.Common.{◌∙◌, arith, mul-zero, add-one, drop-cons, get_or-take, length-take-le, ext_get_or}
 use Rattle.std.proofs.lemmas.List.{get_or-map, length-map, take-map}
+use Rattle.std.proofs.lemmas.List.Folds.{flat_map-map}
 use mathlib.Core.List.{List, [], ◌∷◌, ◌++◌, flat_map}
 use Prim.Native.Nat.{ℕ, suc, ◌+◌, ◌*◌, ◌<◌, ◌≤◌}
 use Rattle.std.proofs.Math.Nat.{mul-suc}
@@ -23,7 +24,7 @@ use Rattle.sheet.specs.declared.Cell.{Cell}
 use Rattle.sheet.specs.declared.Cell.TheVariants.{Start}
 use Rattle.links.specs.ListLaws.{vertex_at, vertices_long}
 use Rattle.links.specs.Lists.{vertices}
-use Rattle.writer.specs.Last.{answers_in, step_of, step_at, steps_in, figures_in, last_numbers, records_at, answers_at, steps_at, figures_at, Finished}
+use Rattle.writer.specs.Last.{answers_in, step_of, taken_entry, step_at, steps_in, figures_in, last_numbers, records_at, answers_at, steps_at, figures_at, Finished}
 use Rattle.writer.specs.Lengths.{answers_section, steps_section}
 
 -- The first k of n entries, of so many bytes each, are written from a place on: those that are left give the whole.
@@ -39,7 +40,7 @@ module _ {A : Type 0} (entry : A → List ℕ) (size n : ℕ) (xs : List A) wher
       let place : at + size * 0 ≡ at = omega (arith, mul-zero size) in
       record { within = omega arith; count = e; long = refl; left = rw place }
 
-  entering_more : (at : ℕ) (before after : List ℕ) (k : ℕ) → Entering entry size n xs at before after k → k < n
+  pub entering_more : (at : ℕ) (before after : List ℕ) (k : ℕ) → Entering entry size n xs at before after k → k < n
       → (d x : A) → get_or xs k d ≡ x → 2 * length (entry x) ≡ size
       → (next : List ℕ) → next ≡ put_numbers after (at + size * k) (entry x) → Entering entry size n xs at before next (k + 1)
   unfolding flat_map
@@ -72,29 +73,11 @@ module _ (s : List ℕ) (parts : Sections) (layout : Layout s parts) (before : L
   variables_more after k inv h x e next w =
       entering_more single 2 parts.variables (network_of s).variables 2 before after k inv h 0 x (variable_at layout k h ∙ sym e) refl next w
 
--- The loop of `write_answers`.
-module _ (answers : List ℕ) (at : ℕ) (before : List ℕ) where
-  pub answers_more : (after : List ℕ) (v : ℕ) → Entering single 2 (length answers) answers at before after v → v < length answers
-      → (next : List ℕ) → next ≡ put_word after (at + 2 * v) (get_or answers v 0)
-      → Entering single 2 (length answers) answers at before next (v + 1)
-  unfolding put_numbers
-  answers_more after v inv h next w =
-      entering_more single 2 (length answers) answers at before after v inv h 0 (get_or answers v 0) refl refl next w
-
 -- A step.
 pub puts_step : (s t u : List ℕ) (at vertex degree : ℕ) → t ≡ put_word s at vertex → u ≡ put_word t (at + 2) degree
     → u ≡ put_numbers s at (vertex ∷ degree ∷ [])
 unfolding put_numbers
 puts_step s t u at vertex degree a b = cc
-
--- The loop of `write_steps`.
-module _ (taken : List Taken) (at : ℕ) (before : List ℕ) where
-  pub steps_more : (after : List ℕ) (k : ℕ) → Entering step_entry 4 (length taken) (map step_of taken) at before after k → k < length taken
-      → (next : List ℕ) → next ≡ put_numbers after (at + 4 * k) (step_entry (step_of (get_or taken k none_taken)))
-      → Entering step_entry 4 (length taken) (map step_of taken) at before next (k + 1)
-  steps_more after k inv h next w =
-      entering_more step_entry 4 (length taken) (map step_of taken) at before after k inv h (step_of none_taken) (step_of (get_or taken k none_taken))
-      (get_or-map step_of taken k none_taken _ h) refl next w
 
 -- The figures.
 pub puts_figures : (s t u v w : List ℕ) (at givens : ℕ) (found : Plan) → t ≡ put_word s at 3 → u ≡ put_word t (at + 2) givens
@@ -128,6 +111,11 @@ steps_first found n h =
     first_are (step_at found) (map step_of found.steps) (step_of none_taken) n (omega (arith, length-map found.steps step_of))
     (λ k i. get_or-map step_of found.steps k none_taken _ (omega arith))
     ∙ take-map step_of n found.steps
+
+-- The entries of steps as the program has them are those of the definition's.
+pub taken_section : (taken : List Taken) → section taken_entry taken ≡ section step_entry (map step_of taken)
+unfolding flat_map
+taken_section taken = rw (length-map, flat_map-map step_entry step_of taken) refl
 
 -- The parts of `finish`: each section is after the one before.
 pub finished : (parts : Sections) (found : Plan) (cells : Cell → ℕ) (count : ℕ) (before counted answered stepped after : List ℕ)

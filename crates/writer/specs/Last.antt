@@ -1,5 +1,6 @@
 -- The sections of a result after its records, in the terms that the program has: the counts of the file, its plan and the cells.
-use Rattle.std.specs.Prelude.{◌≡◌, List, [], ◌∷◌, ◌++◌, map, ℕ, ◌+◌, ◌*◌, ◌<◌, length, get_or}
+use Rattle.std.specs.Prelude.{◌≡◌, List, [], ◌∷◌, ◌++◌, map, ℕ, ◌+◌, ◌*◌, ◌<◌, get_or}
+use Rattle.std.specs.List.{All}
 use Rattle.analysis.specs.Result.{section, single, step_entry}
 use Rattle.form.specs.Numbers.{put_word, put_numbers}
 use Rattle.links.specs.Lists.{vertices}
@@ -18,6 +19,10 @@ answers_in cells n = map (λ v. cells (Start v)) (vertices n)
 -- A step as the definition has it,
 abbrev pub step_of : Taken → Step
 step_of t = record { vertex = t.vertex; degree = t.degree }
+
+-- its entry,
+abbrev pub taken_entry : Taken → List ℕ
+taken_entry t = step_entry (step_of t)
 
 -- and a plan's step k: the vertex and its degree.
 abbrev pub step_at : Plan → ℕ → Step
@@ -54,10 +59,9 @@ figures_at parts count = steps_at parts count + 2 + 4 * parts.vertices
 abbrev pub result_length : Sections → ℕ → ℕ
 result_length parts count = 16 + 2 * parts.variables + 6 * count + 6 * parts.vertices
 
--- The vertex and the degree of each step are 16-bit numbers.
-pub record StepsFit (steps : List Taken) : Type 0 where
-  pub vertex : (k : ℕ) → k < length steps → (get_or steps k none_taken).vertex < 65536
-  pub degree : (k : ℕ) → k < length steps → (get_or steps k none_taken).degree < 65536
+-- The vertex and the degree of a step are 16-bit numbers.
+abbrev pub StepFits : Taken → Type 0
+StepFits t = (t.vertex < 65536) × (t.degree < 65536)
 
 -- The first n steps and the figures of a plan are 16-bit numbers.
 pub record Fits (found : Plan) (n : ℕ) : Type 0 where

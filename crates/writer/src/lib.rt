@@ -2,13 +2,14 @@
 
 #![tactic(auto)]
 
-ghost use Rattle.std.specs.Prelude.{◌≡◌, [], ◌∷◌, ◌+◌, ◌*◌, ◌<◌, ◌≤◌, length, map};
-ghost use Rattle.analysis.specs.Result.{section, single, step_entry};
+ghost use Rattle.std.specs.Prelude.{◌≡◌, refl, List, ℕ, ◌+◌, ◌*◌, ◌<◌, ◌≤◌, length, ⊤};
+ghost use Rattle.std.specs.List.{All};
+ghost use Rattle.analysis.specs.Result.{section, single};
 ghost use Rattle.form.specs.Numbers.{put_word, put_numbers};
 ghost use Rattle.network.specs.Layout.{Within};
 ghost use Rattle.network.specs.Network.{edition, network_of};
 ghost use Rattle.sheet.specs.Cells.{cells_in};
-ghost use Rattle.writer.specs.Last.{step_of, figures_in, result_length, StepsFit, Fits, Finished};
+ghost use Rattle.writer.specs.Last.{taken_entry, StepFits, figures_in, result_length, Fits, Finished};
 
 use entries::Accepted;
 use network::Sections;
@@ -20,6 +21,7 @@ fn put_number(out: &mut [u8], at: usize, n: usize)
     requires { (n < 65536) × (at + 2 ≤ length out.old) }
     ensures { out.new ≡ put_word out.old at n }
 {
+    // A cast that is proved to lose nothing.
     form::put_word(out, at, n as u16);
 }
 
@@ -31,42 +33,78 @@ pub fn write_variables(net: &Accepted<'_>, out: &mut [u8])
 {
     let count = net.parts.variables;
     put_number(out, 0, count);
+    // It reads coil by coil from the file, so there is no slice for `write_entries`.
     for k in 0..count {
         form::put_word(out, 2 + 2 * k, net.variable(k));
     }
 }
 
-// Writes the answer of each vertex.
-#[tactic(auto, using(crate::specs::Entering::entering_none, crate::specs::Entering::entering_done, crate::specs::Entering::answers_more))]
-fn write_answers(answers: &[u16], at: usize, out: &mut [u8])
-    requires { (length answers.now < 65536) × (at + 2 + 2 * length answers.now ≤ length out.old) }
-    ensures { out.new ≡ put_numbers out.old at (section single answers.now) }
-{
-    put_number(out, at, answers.len());
-    for (v, answer) in answers.iter().enumerate() {
-        form::put_word(out, at + 2 + 2 * v, *answer);
+// An entry of a section: how many bytes it has, the numbers that they say, and when these fit 16 bits.
+trait Entry: Copy {
+    const SIZE: usize;
+
+    ghost SIZE: { ℕ };
+
+    ghost numbers: { Self → List ℕ };
+
+    ghost fits: { Self → Type 0 };
+
+    // Writes it at a place.
+    fn write(self, at: usize, out: &mut [u8])
+        requires { fits self × (at + SIZE ≤ length out.old) }
+        ensures { out.new ≡ put_numbers out.old at (numbers self) };
+
+    // Two bytes for each number.
+    ghost two_each: { (x : Self) → 2 * length (numbers x) ≡ SIZE };
+}
+
+// The answer of a vertex.
+impl Entry for u16 {
+    const SIZE: usize = 2;
+
+    ghost SIZE = { 2 };
+
+    ghost numbers = { single };
+
+    ghost fits = { λ _. ⊤ };
+
+    ghost two_each = { λ _. refl };
+
+    #[tactic(auto, unfolding(form::specs::Numbers::put_numbers))]
+    fn write(self, at: usize, out: &mut [u8]) {
+        form::put_word(out, at, self);
     }
 }
 
-// Writes a step: the vertex, and its degree when it is taken.
-fn write_step(step: Taken, at: usize, out: &mut [u8])
-    requires { (step.vertex < 65536) × (step.degree < 65536) × (at + 4 ≤ length out.old) }
-    ensures { out.new ≡ put_numbers out.old at (step.vertex ∷ step.degree ∷ []) }
-{
-    put_number(out, at, step.vertex);
-    put_number(out, at + 2, step.degree);
+// A step: the vertex, and its degree when it is taken.
+impl Entry for Taken {
+    const SIZE: usize = 4;
+
+    ghost SIZE = { 4 };
+
+    ghost numbers = { taken_entry };
+
+    ghost fits = { StepFits };
+
+    ghost two_each = { λ _. refl };
+
+    #[tactic(auto, using(crate::specs::Entering::puts_step))]
+    fn write(self, at: usize, out: &mut [u8]) {
+        put_number(out, at, self.vertex);
+        put_number(out, at + 2, self.degree);
+    }
 }
 
-// Writes the order.
-#[tactic(auto, using(crate::specs::Entering::entering_none, crate::specs::Entering::entering_done))]
-fn write_steps(steps: &[Taken], at: usize, out: &mut [u8])
-    requires room { (length steps.now < 65536) × (at + 2 + 4 * length steps.now ≤ length out.old) }
-    requires fit { StepsFit steps.now }
-    ensures { out.new ≡ put_numbers out.old at (section step_entry (map step_of steps.now)) }
+// Writes a section: the count of the entries, and each of them.
+#[tactic(auto, using(crate::specs::Entering::entering_more, crate::specs::Entering::entering_done))]
+fn write_entries<E: Entry>(entries: &[E], at: usize, out: &mut [u8])
+    requires room { (length entries.now < 65536) × (at + 2 + E.SIZE * length entries.now ≤ length out.old) }
+    requires fit { All E.fits entries.now }
+    ensures { out.new ≡ put_numbers out.old at (section E.numbers entries.now) }
 {
-    put_number(out, at, steps.len());
-    for (k, step) in steps.iter().enumerate() {
-        write_step(*step, at + 2 + 4 * k, out);
+    put_number(out, at, entries.len());
+    for (k, entry) in entries.iter().enumerate() {
+        entry.write(at + 2 + E::SIZE * k, out);
     }
 }
 
@@ -81,7 +119,8 @@ fn write_figures(givens: usize, found: Plan, at: usize, out: &mut [u8])
     put_number(out, at + 6, found.work);
 }
 
-// Writes the records' count before them and the last three sections after them; gives the length of the result.
+// Writes the records' count before them and the last three sections after them; gives the length of the result. What it writes has three makers: the file, the plan
+// and the worksheet.
 pub fn finish(
     parts: Sections,
     found: Plan,
@@ -101,8 +140,8 @@ pub fn finish(
     let figures_at = steps_at + 2 + 4 * n;
     put_number(out, records_at, count);
     // Each start has become its vertex's answer.
-    write_answers(&cells[..n], answers_at, out);
-    write_steps(&found.steps[..n], steps_at, out);
+    write_entries(&cells[..n], answers_at, out);
+    write_entries(&found.steps[..n], steps_at, out);
     write_figures(parts.givens, found, figures_at, out);
     figures_at + 8
 }

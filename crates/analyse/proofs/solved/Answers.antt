@@ -8,7 +8,7 @@ wire_sheet-requires-clause-table c =
 
 pub eliminate_from-requires-clause-able : goal.eliminate_from-requires-clause-able
 eliminate_from-requires-clause-able c =
-    plan_able _ _ (record { layout = c.args.net.now.layout; within = c.requires.within }) _ c.requires.found_value _ c.args.sheet.now c.requires.empty
+    plan_able _ _ (record { layout = c.args.net.now.layout; within = c.requires.within }) _ c.requires.found_value _ c.args.sheet.now c.requires.blank.records
     c.requires.table _ _ _ c.wire_sheet.ensures.wired_in c.wire_sheet.ensures.noted c.wire_sheet.ensures.base c.wire_sheet.ensures.variables
     _ c.order-order.ensures _ c.all-rest.ensures
 
@@ -19,6 +19,6 @@ eliminate_from-requires-clause-level c =
 
 pub returns : goal.returns
 returns c =
-    plan_carried _ _ (record { layout = c.args.net.now.layout; within = c.requires.within }) _ c.requires.found_value _ c.args.sheet.now c.requires.empty
+    plan_carried _ _ (record { layout = c.args.net.now.layout; within = c.requires.within }) _ c.requires.found_value _ c.args.sheet.now c.requires.blank.records
     c.requires.table _ _ _ c.wire_sheet.ensures.wired_in c.wire_sheet.ensures.noted c.wire_sheet.ensures.base c.wire_sheet.ensures.variables
     _ c.order-order.ensures _ c.all-rest.ensures _ _ c.eliminate_from.ensures.carried

@@ -7,7 +7,9 @@ pub loop-k-init : goal.loop-k-init
 loop-k-init c = search (planning_none, rules)
 
 pub loop-k-preserved : goal.loop-k-preserved
-loop-k-preserved c = search (planning_more, rules)
+loop-k-preserved c =
+    let step = rw c.loop-k.invariant.0 at c.step-now.ensures in
+    search (planning_more, rules)
 
 pub returns : goal.returns
 returns c = search (planned, rules)

@@ -1,7 +1,7 @@
 -- Each section's reading is its answer, and at each return the law of that way out gives the file's.
 use Rattle.std.proofs.Common.{◌+◌, rules, arith}
 use Rattle.network.specs.Faults.{coil_fault, given_fault, reference_fault, vertex_fault, switch_fault}
-use Rattle.reader.proofs.Whole.{refusing}
+use Rattle.reader.specs.Callers.{passed_on}
 use Rattle.reader.proofs.File.{Variables, Givens, Vertices, Switches, variables_wrong, givens_wrong, vertices_wrong, switches_wrong, file_trails, file_fine}
 use Rattle.reader.proofs.check_within.Goals as goal
 use Rattle.reader.proofs.check_within.Goals.{After-read_section, After-read_section-2, After-read_section-3, After-read_section-4}
@@ -24,20 +24,20 @@ switches c =
 pub returns-in_err-variables : goal.returns-in_err-variables
 returns-in_err-variables c =
     let at = goal.at.returns-in_err-variables c in
-    refusing c.from_residual.result _ c.from_residual.ensures.1
+    rw (passed_on c.from_residual.result _ c.from_residual.ensures.1)
     (variables_wrong _ _ c.in_err-variables.was (variables at.After-read_section))
 
 pub returns-in_err-givens : goal.returns-in_err-givens
 returns-in_err-givens c =
     let at = goal.at.returns-in_err-givens c in
-    refusing c.from_residual-in_err-givens.result _ c.from_residual-in_err-givens.ensures.1
+    rw (passed_on c.from_residual-in_err-givens.result _ c.from_residual-in_err-givens.ensures.1)
     (givens_wrong _ _ c.in_ok-variables.was (variables at.After-read_section)
     c.in_err-givens.was (givens at.After-read_section-2))
 
 pub returns-in_err-vertices : goal.returns-in_err-vertices
 returns-in_err-vertices c =
     let at = goal.at.returns-in_err-vertices c in
-    refusing c.from_residual-in_err-vertices.result _ c.from_residual-in_err-vertices.ensures.1
+    rw (passed_on c.from_residual-in_err-vertices.result _ c.from_residual-in_err-vertices.ensures.1)
     (vertices_wrong _ _ c.in_ok-variables.was (variables at.After-read_section)
     c.in_ok-givens.was (givens at.After-read_section-2)
     c.in_err-vertices.was (vertices at.After-read_section-3))
@@ -45,7 +45,7 @@ returns-in_err-vertices c =
 pub returns-in_err-switches : goal.returns-in_err-switches
 returns-in_err-switches c =
     let at = goal.at.returns-in_err-switches c in
-    refusing c.from_residual-in_err-switches.result _ c.from_residual-in_err-switches.ensures.1
+    rw (passed_on c.from_residual-in_err-switches.result _ c.from_residual-in_err-switches.ensures.1)
     (switches_wrong _ _ c.in_ok-variables.was (variables at.After-read_section)
     c.in_ok-givens.was (givens at.After-read_section-2)
     c.in_ok-vertices.was (vertices at.After-read_section-3)

@@ -1,5 +1,5 @@
 -- The laws of a level: no pivot is left, or one is passed, the others are eliminated and answered, and then it is answered.
-use Rattle.std.proofs.Common.{refl, rules}
+use Rattle.std.proofs.Common.{rules}
 use Rattle.solve.specs.Levels.{level_none, level_same, level_falls, level_next, level_after, level_first, level_ready, level_last, level_done}
 use Rattle.solve.proofs.+eliminate_from.Goals as goal
 
@@ -10,28 +10,16 @@ pub returns-then-k-n-clause-links_value : goal.returns-then-k-n-clause-links_val
 returns-then-k-n-clause-links_value t c = search (level_same, rules)
 
 pub forward-requires : goal.forward-requires
-forward-requires t c = level_first _ _ _ _ c.requires.level c.if-k-n.false _ refl _ _ c.near.ensures c.requires.able
+forward-requires t c = search (level_first, rules)
 
 pub eliminate_from-requires : goal.eliminate_from-requires
-eliminate_from-requires t c = (
-  search (level_falls, rules),
-  (
-    level_ready _ _ _ _ c.requires.level c.if-k-n.false _ refl _ c.eliminate.ensures _ _ _ c.near.ensures c.excluding-left.ensures c.requires.able
-        c.forward.ensures,
-    level_next _ _ _ _ c.requires.level c.if-k-n.false _ refl _ c.eliminate.ensures,
-  ),
-)
+eliminate_from-requires t c = (search (level_falls, rules), (search (level_ready, rules), search (level_next, rules)))
 
 pub backward-requires : goal.backward-requires
-backward-requires t c =
-    level_last _ _ _ _ c.requires.level c.if-k-n.false _ refl _ c.eliminate.ensures _ _ _ c.near.ensures c.excluding-left.ensures c.requires.able
-    c.forward.ensures c.eliminate_from.ensures.carried
+backward-requires t c = search (level_last, rules)
 
 pub returns-clause-carried : goal.returns-clause-carried
-returns-clause-carried t c =
-    level_done _ _ _ _ c.requires.level c.if-k-n.false _ refl _ c.eliminate.ensures _ _ _ c.near.ensures c.excluding-left.ensures c.requires.able
-    c.forward.ensures c.eliminate_from.ensures.carried c.backward.ensures
+returns-clause-carried t c = search (level_done, rules)
 
 pub returns-clause-links_value : goal.returns-clause-links_value
-returns-clause-links_value t c =
-    level_after _ _ _ _ c.requires.level c.if-k-n.false _ refl _ c.eliminate.ensures _ c.eliminate_from.ensures.links_value
+returns-clause-links_value t c = search (level_after, rules)

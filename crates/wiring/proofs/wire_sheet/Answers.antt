@@ -5,7 +5,7 @@ use Rattle.wiring.proofs.wire_sheet.Goals as goal
 
 pub wire_switches-requires-clause-translating : goal.wire_switches-requires-clause-translating
 wire_switches-requires-clause-translating c =
-    passed_translates _ _ (search rules) _ c.requires.empty _ c.requires.table _ _ _ c.pass_givens.ensures.passed_in
+    passed_translates _ _ (search rules) _ c.requires.blank.records _ c.requires.table _ _ _ c.pass_givens.ensures.passed_in
     c.pass_givens.ensures.base c.pass_givens.ensures.variables c.put_starts.new.sheet c.put_starts.ensures.records
 
 pub wire_switches-requires-clause-able : goal.wire_switches-requires-clause-able

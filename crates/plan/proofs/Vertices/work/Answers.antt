@@ -2,7 +2,7 @@
 use Rattle.std.proofs.Common.{rules}
 use Rattle.links.specs.Sums.{summing_none, summing_more}
 use Rattle.plan.specs.Work.{pivot_counted}
-use Rattle.plan.proofs.pivot_work.Goals as goal
+use Rattle.plan.proofs.Vertices.work.Goals as goal
 
 pub loop-v-init : goal.loop-v-init
 loop-v-init c = search (summing_none, rules)
