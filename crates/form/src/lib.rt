@@ -27,7 +27,7 @@ pub struct Record {
     pub second: u16,
 }
 
-// A reference: a constant, a variable, or a given formula or record.
+// A reference: a constant, a variable, or a given formula or record. It is the number that files and results have; there is no heap for what it names.
 #[derive(Debug, Clone, Copy, PartialEq, Eq, PartialOrd, Ord)]
 pub struct Reference {
     pub number: u16,
@@ -88,7 +88,7 @@ impl Fault {
         }
     }
 
-    // Its place.
+    // Its place; 0 where it has none, as the doors to C and the definition `place_of` have it.
     pub fn place(self) -> usize
         ensures { result ≡ place_of self }
     {
@@ -106,7 +106,7 @@ impl Fault {
     }
 }
 
-// A refusal in words, by its number and its place.
+// A refusal in words, by its number and its place. The line of a listing is the outline's, in other words.
 impl fmt::Display for Fault {
     ghost output = { λ f. Some (words_of f) };
 

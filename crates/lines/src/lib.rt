@@ -1,4 +1,4 @@
-// The lines of a result, put into a lent buffer.
+// The lines of a result, put into a lent buffer: by hand, and with a place beside the buffer, for the reasons that `text` gives.
 
 #![tactic(auto)]
 

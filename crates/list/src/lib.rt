@@ -1,4 +1,4 @@
-// The listing of a wiring file, as text.
+// The listing of a wiring file, as text, which is put by hand for the reason that `text` gives.
 
 #![tactic(auto)]
 

@@ -33,7 +33,7 @@ fn place(c: Cell) -> usize
     }
 }
 
-// The sheet at work: its cells, and the records that these refer to, whose bytes are in the buffer that is lent beside.
+// The sheet at work: its cells, and the records that these refer to, whose bytes are in the buffer that is lent beside, as with `Records`.
 #[derive(Drop)]
 pub struct Worksheet {
     pub cells: [u16; CELLS],

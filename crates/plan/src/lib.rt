@@ -160,7 +160,7 @@ fn wire(net: &Accepted<'_>, links: &mut [u64; SIDE]) -> usize
     joins
 }
 
-// The vertices in order, each with its degree when it is taken, the work, and the joins. Beyond the last vertex both numbers are 0.
+// The vertices in order, each with its degree when it is taken, the work, and the joins. Beyond the last vertex both numbers are 0: the memory is fixed, and the file says how many vertices there are.
 #[derive(Clone, Copy)]
 pub struct Plan {
     pub steps: [Taken; SIDE],
@@ -208,7 +208,7 @@ pub fn plan_of(net: &Accepted<'_>) -> Plan
     eliminate_all(&mut links, net.parts.vertices, joins)
 }
 
-// The room that the result of an accepted file needs.
+// The room that the result of an accepted file needs. Its sections are enough for it, so it takes no bytes.
 pub fn room_for(parts: Sections, found: Plan) -> usize
     requires within { Within edition parts }
     requires bounded { Bounded edition found.joins found.work }

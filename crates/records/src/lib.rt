@@ -12,7 +12,7 @@ ghost use Rattle.records.specs.Entered.{FoundIn, Usable, Empty, Entered};
 
 use form::{AND, NOT, OR, Record, Reference};
 
-// Buckets of records: of each, one more than the place of its newest record is kept, and 0 where it has none. The memory is fixed: options would take twice of it.
+// Buckets of records: of each, one more than the place of its newest record is kept, and 0 where it has none. The memory is fixed: a map would take a heap, and options twice as much.
 pub const BUCKETS: usize = 4096;
 
 // Writes a record at a place.

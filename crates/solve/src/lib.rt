@@ -88,6 +88,7 @@ impl Pivot {
 }
 
 // Eliminates the pivots from place k of the order on, and answers them from last to first. A pivot's neighbours are kept until it is answered.
+// The order goes with n and a place, as the definition `plan_from` walks it; n says how many vertices there are, and all rows of the links are read.
 pub fn eliminate_from(
     sheet: &mut Worksheet,
     out: &mut [u8],

@@ -1,4 +1,5 @@
 // The sheet from which the elimination starts: starts and labels translated, labels joined.
+// The links go beside the sheet, since starts and answers are put without them. That a reference is there depends on the records, so it is asked.
 
 #![tactic(auto)]
 

@@ -1,4 +1,4 @@
-// The result's writer: the variables before the records, and everything after them.
+// The result's writer: the variables before the records, and everything after them. A buffer goes with a place, for the reason that `text` gives.
 
 #![tactic(auto)]
 
@@ -108,7 +108,7 @@ fn write_entries<E: Entry>(entries: &[E], at: usize, out: &mut [u8])
     }
 }
 
-// Writes the figures: given formulas, joins, work.
+// Writes the figures: given formulas, joins, work. Each is named where it is written; as entries of an array they would go by their place.
 fn write_figures(givens: usize, found: Plan, at: usize, out: &mut [u8])
     requires { (givens < 65536) × (found.joins < 65536) × (found.work < 65536) × (at + 8 ≤ length out.old) }
     ensures { out.new ≡ put_numbers out.old at (section single (figures_in givens found)) }
