@@ -28,6 +28,7 @@ pub record Promise (s setting before after : List ℕ) (r : Result ℕ Fault) : 
   pub reply : reply_of r ≡ direct_answer edition s setting (length before)
   pub bytes : Leaves (direct_answer edition s setting (length before)) (network_of s) setting before after
 
+-- The lowest bad index is no further than the end.
 bad_within : (setting : List ℕ) → first_bad setting ≤ length setting
 unfolding first_bad
 bad_within [] = omega arith

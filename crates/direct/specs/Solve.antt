@@ -8,6 +8,7 @@ use borrow.Author.Tests.{lt-ltb, le-ltb, ltb-true, ltb-false}
 use Rattle.std.proofs.Math.ListN.{get_or, length-set}
 use Rattle.std.proofs.Math.Seq.{get_or-set_same, get_or-set_other, drop-set-lt}
 use Rattle.form.specs.Numbers.{bit_of}
+use Rattle.laws.specs.Places.{at_same}
 use Rattle.laws.specs.Tests.{both_true, by_test, by_same}
 use Rattle.formula.specs.Worth.{worth}
 use Rattle.network.specs.declared.Sections.{Sections}
@@ -16,7 +17,7 @@ use Rattle.network.specs.Lists.{starts_length, start_at}
 use Rattle.network.specs.Network.{edition, side, network_of}
 use Rattle.paths.specs.Paths.{worth_in, Reached, source, through}
 use Rattle.paths.specs.PathLaws.{reached_all}
-use Rattle.values.specs.Values.{value_in, Holds, at_falses}
+use Rattle.values.specs.Values.{value_in, Holds}
 use Rattle.direct.specs.Direct.{Answered}
 use Rattle.direct.specs.Marks.{marked}
 use Rattle.direct.specs.Sweep.{Spread, spread_sound, spread_grows, spread_full}
@@ -37,7 +38,7 @@ module _ (values : List Bool) (s : List ℕ) (parts : Sections) (layout : Layout
   pub beginning_none : (marks : List Bool) → marks ≡ replicate side false → Beginning (value_in values) (network_of s).starts marks 0
   unfolding marked
   beginning_none marks e =
-      record { within = omega arith; at = λ v. rw (e, at_falses side v, le-ltb v 0 (omega arith)); long = rw e }
+      record { within = omega arith; at = λ v. rw (e, at_same false side v, le-ltb v 0 (omega arith)); long = rw e }
 
   module _ (marks : List Bool) (k : ℕ) (inv : Beginning (value_in values) (network_of s).starts marks k) where
     pub beginning_more : k < parts.vertices → (r : ℕ) → StartRead s parts k r

@@ -7,12 +7,16 @@ use Rattle.std.proofs.lemmas.List.{length-replicate, get_or-replicate}
 use Rattle.std.proofs.Math.ListN.{get_or-eq_default}
 use Rattle.laws.specs.Tests.{by_test}
 
--- Zeros, and past the last place too.
-pub at_zeros : (n k : ℕ) → get_or {A = ℕ} (replicate n 0) k 0 ≡ 0
-at_zeros n k =
+-- A list of one value has it at every place, where it is the default too;
+pub at_same : {A : Type 0} (x : A) (n k : ℕ) → get_or (replicate n x) k x ≡ x
+at_same x n k =
     by_test (ltb k n)
-    (λ t. get_or-replicate {A = ℕ} n k 0 0 (ltb-true k n t))
-    (λ t. get_or-eq_default {A = ℕ} (replicate n 0) 0 {n = k} (omega (arith, ltb-false k n t, length-replicate {A = ℕ} n 0)))
+    (λ t. get_or-replicate n k x x (ltb-true k n t))
+    (λ t. get_or-eq_default (replicate n x) x {n = k} (omega (arith, ltb-false k n t, length-replicate n x)))
+
+-- so a list of zeros is 0 at every place.
+pub at_zeros : (n k : ℕ) → get_or {A = ℕ} (replicate n 0) k 0 ≡ 0
+at_zeros = at_same 0
 
 -- Where every entry is below a bound and what is written is too, every entry stays so.
 pub set_below : (xs : List ℕ) (k x bound : ℕ) → x < bound → ((j : ℕ) → get_or xs j 0 < bound) → (j : ℕ) → get_or (set xs k x) j 0 < bound

@@ -4,6 +4,7 @@ use Rattle.std.proofs.Common.{ap, ◌∙◌, arith, add-one, length-set, get_or-
 use Rattle.std.proofs.Math.Path.{sym, fun_ext}
 use Rattle.std.proofs.Math.ListN.{length, get_or}
 use Rattle.std.proofs.Math.Seq.{take-length, length-take-le}
+use Rattle.laws.specs.Places.{at_same}
 use Rattle.laws.specs.Tests.{by_same}
 use Rattle.form.specs.References.{constant_true, variable, formula}
 use Rattle.form.specs.declared.Record.{Record}
@@ -13,7 +14,7 @@ use Rattle.network.specs.declared.Sections.{Sections}
 use Rattle.network.specs.Layout.{Layout, Within, GivenRead}
 use Rattle.network.specs.Lists.{givens_length, given_at_lem}
 use Rattle.network.specs.Network.{edition, network_of}
-use Rattle.values.specs.Values.{value_in, places, Holds, gate_bit, at_falses}
+use Rattle.values.specs.Values.{value_in, places, Holds, gate_bit}
 
 -- A truth written at the first place that is not known is one value more.
 holds_next :
@@ -44,7 +45,7 @@ unfolding value_in
 constants zero = refl
 constants (suc zero) = refl
 constants (suc (suc r)) =
-    get_or-set_other (replicate places false) constant_true (suc (suc r)) true false (omega arith) ∙ at_falses places (suc (suc r))
+    get_or-set_other (replicate places false) constant_true (suc (suc r)) true false (omega arith) ∙ at_same false places (suc (suc r))
 
 module _ (setting : List ℕ) where
   pub filling_none : (values : List Bool) → values ≡ replicate places false → (at : ℕ) → at ≡ constant_true → Filling setting (set values at true) 0

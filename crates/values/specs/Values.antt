@@ -1,9 +1,6 @@
 -- The program's array of values: a truth for each reference.
-use Rattle.std.specs.Prelude.{◌≡◌, Bool, false, List, ℕ, ◌<◌, ltb, length, get_or, replicate}
-use Rattle.std.proofs.Common.{arith, ltb-true, ltb-false}
-use Rattle.std.proofs.lemmas.List.{length-replicate, get_or-replicate}
-use Rattle.std.proofs.Math.ListN.{get_or-eq_default}
-use Rattle.laws.specs.Tests.{by_test}
+use Rattle.std.specs.Prelude.{◌≡◌, Bool, false, List, ℕ, ◌<◌, length, get_or}
+use Rattle.std.proofs.Common.{arith}
 use Rattle.form.specs.References.{formula}
 use Rattle.form.specs.declared.Record.{Record}
 use Rattle.formula.specs.Worth.{operate}
@@ -33,13 +30,6 @@ gate_bit values g = operate g.kind (value_in values g.first) (value_in values g.
 pub record Small (g : Record) : Type 0 where
   pub first : g.first < places
   pub second : g.second < places
-
--- An array of falses is false at each place, and past the last one too.
-pub at_falses : (n k : ℕ) → get_or (replicate n false) k false ≡ false
-at_falses n k =
-    by_test (ltb k n)
-    (λ t. get_or-replicate {A = Bool} n k false false (ltb-true k n t))
-    (λ t. get_or-eq_default {A = Bool} (replicate n false) false {n = k} (omega (arith, ltb-false k n t, length-replicate {A = Bool} n false)))
 
 -- A given formula that was read has its arguments in the array.
 pub given_small :
