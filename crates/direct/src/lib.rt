@@ -19,11 +19,11 @@ use form::Fault;
 use network::{SIDE, Switch};
 use values::PLACES;
 
-// An accepted file of this edition, and the values of its references under a setting.
-#[derive(Drop)]
+// An accepted file of this edition, and the values of its references under a setting. They are lent, since an array of its own would be made in one place and copied to another.
+#[derive(Clone, Copy)]
 struct Valued<'a> {
     net: Accepted<'a>,
-    values: [bool; PLACES],
+    values: &'a [bool; PLACES],
     ghost within: { Within edition net.parts },
 }
 
@@ -32,7 +32,7 @@ impl Valued<'_> {
     #[tactic(auto, unfolding(values::specs::Values::value_in, crate::specs::Marks::marked, crate::specs::Marks::spreads, crate::specs::Marks::contact, crate::specs::Marks::contact_new))]
     fn contact(&self, marks: &mut [bool; SIDE], label: u16, from: u16, to: u16) -> usize
         requires { (label < places) × (from < side) × (to < side) }
-        ensures { Contacted (value_in self.now.values) label from to marks.old marks.new result }
+        ensures { Contacted (value_in self.now.values.now) label from to marks.old marks.new result }
     {
         let to = usize::from(to);
         let new = self.values[usize::from(label)] && marks[usize::from(from)] && !marks[to];
@@ -45,7 +45,7 @@ impl Valued<'_> {
     // Both directions of a switch.
     fn through(&self, marks: &mut [bool; SIDE], w: Switch) -> usize
         requires { (w.first < side) × (w.second < side) × (w.there < places) × (w.back < places) }
-        ensures { Travelled (value_in self.now.values) w marks.old marks.new result }
+        ensures { Travelled (value_in self.now.values.now) w marks.old marks.new result }
     {
         let there = self.contact(marks, w.there, w.first, w.second);
         let back = self.contact(marks, w.back, w.second, w.first);
@@ -54,7 +54,7 @@ impl Valued<'_> {
 
     // All switches in order; gives the number of new marks.
     fn sweep(&self, marks: &mut [bool; SIDE]) -> usize
-        ensures { Swept (value_in self.now.values) (network_of self.now.net.file.now).switches marks.old marks.new result }
+        ensures { Swept (value_in self.now.values.now) (network_of self.now.net.file.now).switches marks.old marks.new result }
     {
         let mut new = 0;
         for k in 0..self.net.parts.switches {
@@ -65,7 +65,7 @@ impl Valued<'_> {
 
     // Sweeps until a sweep marks nothing.
     fn spread(&self, marks: &mut [bool; SIDE])
-        ensures { Spread (value_in self.now.values) (network_of self.now.net.file.now).switches marks.old marks.new }
+        ensures { Spread (value_in self.now.values.now) (network_of self.now.net.file.now).switches marks.old marks.new }
     {
         // How often is not known before, so no range says it; the 1 is for the sweep that is to come.
         let mut new = 1;
@@ -76,7 +76,7 @@ impl Valued<'_> {
 
     // The marks of the vertices with a true start.
     fn begin(&self) -> [bool; SIDE]
-        ensures { Beginning (value_in self.now.values) (network_of self.now.net.file.now).starts result self.now.net.parts.vertices }
+        ensures { Beginning (value_in self.now.values.now) (network_of self.now.net.file.now).starts result self.now.net.parts.vertices }
     {
         let mut marks = [false; SIDE];
         for v in 0..self.net.parts.vertices {
@@ -102,9 +102,10 @@ fn solve(net: &Accepted<'_>, setting: &[u8], out: &mut [u8])
     requires setting_len { (length setting.now ≡ net.now.parts.variables) × (net.now.parts.vertices ≤ length out.old) }
     ensures { Answered (network_of net.now.file.now) setting.now out.old out.new }
 {
+    let values = values::values_of(net, setting);
     let valued = Valued {
         net: *net,
-        values: values::values_of(net, setting),
+        values: &values,
     };
     let mut marks = valued.begin();
     valued.spread(&mut marks);

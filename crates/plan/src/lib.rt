@@ -173,7 +173,12 @@ impl Plan {
     pub fn order(&self) -> [usize; SIDE]
         ensures { result ≡ order_of_plan self.now }
     {
-        self.steps.map(|step| step.vertex)
+        // In place: `map` would build the array in a second place and copy it.
+        let mut order = [0; SIDE];
+        for k in 0..SIDE {
+            order[k] = self.steps[k].vertex;
+        }
+        order
     }
 }
 

@@ -5,4 +5,4 @@ use Rattle.direct.specs.Solve.{Beginning}
 use Rattle.direct.proofs.Valued.begin.Given as goal
 
 abbrev pub invariant-loop-v : goal.invariant-loop-v
-invariant-loop-v l = Beginning (value_in l.self.values) (network_of l.self.net.file.now).starts l.marks l.v
+invariant-loop-v l = Beginning (value_in l.self.values.now) (network_of l.self.net.file.now).starts l.marks l.v

@@ -5,4 +5,4 @@ use Rattle.direct.specs.Marks.{Sweeping}
 use Rattle.direct.proofs.Valued.sweep.Given as goal
 
 abbrev pub invariant-loop-k : goal.invariant-loop-k
-invariant-loop-k l = Sweeping (value_in l.self.values) (network_of l.self.net.file.now).switches l.initial.marks l.marks l.k l.new
+invariant-loop-k l = Sweeping (value_in l.self.values.now) (network_of l.self.net.file.now).switches l.initial.marks l.marks l.k l.new
