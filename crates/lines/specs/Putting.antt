@@ -1,14 +1,15 @@
 -- The lines as they are put: the parts of each, and the room for these.
-use Rattle.std.specs.Prelude.{◌≡◌, List, ◌++◌, ℕ, ◌+◌, ◌≤◌, length}
+use Rattle.std.specs.Prelude.{◌≡◌, List, [], ◌∷◌, ◌++◌, ℕ, ◌+◌, ◌≤◌, length}
 use Rattle.std.proofs.Math.Path.{refl}
 use Rattle.std.proofs.Common.{ap, arith, length-append}
 use borrow.Author.Tests.{eq-eqb, ne_eqb}
 use Rattle.form.specs.References.{kind_and, kind_or, kind_not}
 use Rattle.form.specs.declared.Record.{Record}
 use Rattle.links.specs.Links.{Step}
+use Rattle.text.specs.Decimals.{decimal_shorter}
 use Rattle.text.specs.Puts.{Puts}
 use Rattle.text.specs.Texts.{ascii, ending, decimal, field, pair_line}
-use Rattle.lines.specs.Lines.{counts_line, pivot_line, kind_text, second_text, record_line, vertex_line}
+use Rattle.lines.specs.Lines.{counts_line, pivot_line, kind_text, second_text, record_line, vertex_line, lines}
 
 -- Lines of numbers that are read.
 pub pivot_line_lem : (k : ℕ) (p : Step) (vertex degree : ℕ) → vertex ≡ p.vertex → degree ≡ p.degree
@@ -73,3 +74,14 @@ record_room reference r =
 pub record_long : (reference : ℕ) (r : Record) → length (record_line reference r) ≡ record_room reference r
 unfolding record_line
 record_long reference r = simp length-append (omega arith)
+
+-- A smaller reference takes no more room, nor do the lines of records that are numbered from a smaller one on.
+record_shorter : (m n : ℕ) (r : Record) → m ≤ n → length (record_line m r) ≤ length (record_line n r)
+record_shorter m n r h = omega (arith, record_long m r, record_long n r, decimal_shorter m n h)
+
+pub records_shorter : (m n : ℕ) (xs : List Record) → m ≤ n → length (lines record_line m xs) ≤ length (lines record_line n xs)
+unfolding lines
+records_shorter m n [] h = omega arith
+records_shorter m n (x ∷ xs) h =
+    rw (length-append (record_line m x) (lines record_line (m + 1) xs), length-append (record_line n x) (lines record_line (n + 1) xs))
+    (omega (arith, record_shorter m n x h, records_shorter (m + 1) (n + 1) xs (omega arith)))

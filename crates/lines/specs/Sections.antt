@@ -13,7 +13,7 @@ use Rattle.text.specs.Putting.{puts_both}
 use Rattle.lines.specs.Entries.{pivot_at, line_of_pivot, answer_at, line_of_answer, pivot_lines, answer_lines}
 use Rattle.lines.specs.Lines.{counts_line, pivot_line, record_line, vertex_line, lines, result_lines}
 use Rattle.lines.specs.Parts.{Laid}
-use Rattle.lines.specs.Putting.{counts_room, counts_long}
+use Rattle.lines.specs.Putting.{counts_room, counts_long, records_shorter}
 use Rattle.lines.specs.declared.Parts.{Parts}
 use Rattle.lines.specs.declared.Section.{Section}
 
@@ -35,8 +35,11 @@ module _ (s : List ℕ) (parts : Parts) (laid : Laid s parts) where
   abbrev pivots : List ℕ
   pivots = lines line_of_pivot 0 (section_of pivot_at step_size s parts.order.place)
 
+  abbrev records_from : ℕ → List ℕ
+  records_from first = lines record_line first (section_of given_at given_size s parts.records.place)
+
   abbrev records : List ℕ
-  records = lines record_line (2 + parts.variables) (section_of given_at given_size s parts.records.place)
+  records = records_from (2 + parts.variables)
 
   abbrev answers : List ℕ
   answers = lines line_of_answer 0 (section_of answer_at vertex_size s parts.answers.place)
@@ -62,18 +65,23 @@ module _ (s : List ℕ) (parts : Parts) (laid : Laid s parts) where
     pivots_fit = omega (arith, all_fit)
 
     module _ (b₁ : List ℕ) (m₁ : ℕ) (p₁ : Puts pivots at b₀ b₁ m₁) where
-      pub records_fit : m₁ + length records ≤ length b₁
-      records_fit = omega (arith, all_fit)
+      -- Records that are numbered from a smaller reference on take no more room.
+      module _ (first : ℕ) (low : first ≤ 2 + parts.variables) where
+        short : length (records_from first) ≤ length records
+        short = records_shorter first (2 + parts.variables) (section_of given_at given_size s parts.records.place) low
 
-      module _ (b₂ : List ℕ) (m₂ : ℕ) (p₂ : Puts records m₁ b₁ b₂ m₂) where
-        pub answers_fit : m₂ + length answers ≤ length b₂
-        answers_fit = omega (arith, all_fit)
+        pub records_fit : m₁ + length (records_from first) ≤ length b₁
+        records_fit = omega (arith, all_fit, short)
 
-        pub sections_put : (b₃ : List ℕ) (r : ℕ) → Puts answers m₂ b₂ b₃ r → Puts (section_lines parts.variables (stored_of s)) at b₀ b₃ r
-        unfolding section_lines
-        sections_put b₃ r p₃ =
-            rw (← pivots_put, ← records_put, ← answers_put)
-            (puts_both pivots (records ++ answers) at b₀ b₁ m₁ p₁ b₃ r (puts_both records answers m₁ b₁ b₂ m₂ p₂ b₃ r p₃))
+        pub answers_fit : (b₂ : List ℕ) (m₂ : ℕ) → Puts (records_from first) m₁ b₁ b₂ m₂ → m₂ + length answers ≤ length b₂
+        answers_fit b₂ m₂ p₂ = omega (arith, all_fit, short)
+
+      pub sections_put : (b₂ : List ℕ) (m₂ : ℕ) → Puts records m₁ b₁ b₂ m₂ → (b₃ : List ℕ) (r : ℕ) → Puts answers m₂ b₂ b₃ r
+          → Puts (section_lines parts.variables (stored_of s)) at b₀ b₃ r
+      unfolding section_lines
+      sections_put b₂ m₂ p₂ b₃ r p₃ =
+          rw (← pivots_put, ← records_put, ← answers_put)
+          (puts_both pivots (records ++ answers) at b₀ b₁ m₁ p₁ b₃ r (puts_both records answers m₁ b₁ b₂ m₂ p₂ b₃ r p₃))
 
 module _ (s : List ℕ) (parts : Parts) (laid : Laid s parts) where
   -- The counts and figures.

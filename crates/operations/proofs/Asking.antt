@@ -21,7 +21,32 @@ pub held_below : {more : ℕ} {w : Worksheet} {o : List ℕ} → Able more w o �
     → r < formula w.records.variables w.records.count
 held_below {more} {w} {o} able c i {r} e = cell_below w.records.variables w.records.base more w.cells o w.records.count c r able.ready i e
 
--- The product has been made of what the cells of an operation hold.
+-- The product, or whatever else, has been made of what the cells of an operation hold.
+module _ {w : Worksheet} {o : List ℕ} (x : Ask) (able : Able (cond x.joined 2 1) w o) (inside : Inside x.to × Inside x.a × Inside x.b)
+    {a b : ℕ} (ea : a ≡ cells_in w.cells x.a) (eb : b ≡ cells_in w.cells x.b) {r : Records} {o' : List ℕ} {t : Reference}
+    (kind : ℕ) (y : Entered (make w.records.variables kind a b) w.records o r o' t) (e : x.joined ≡ true) where
+  -- Then, whatever its kind, there is room for the sum,
+  pub sum_usable : Usable r o'
+  sum_usable =
+      let room : Room w.records.variables w.records.base r.count o' =
+      sum_room w.records.variables w.records.base kind a b w.records.count o o' (made t r) y.makes x.joined e able.ready.table
+      (held_below able x.a inside.1 ea) (held_below able x.b inside.2 eb) in
+      record { room = rw (y.variables, y.base) room; noted = y.noted }
+
+  -- and its arguments are there.
+  pub sum_was : {was : ℕ} → was ≡ cells_in w.cells x.to → was < formula r.variables r.count
+  sum_was {was} ew =
+      rw y.variables
+      (sum_first w.records.variables w.records.base kind a b w.records.count o o' (made t r) y.makes x.joined e able.ready.table
+      (held_below able x.a inside.1 ea) (held_below able x.b inside.2 eb) was (held_below able x.to inside.0 ew))
+
+  pub sum_product : t.number < formula r.variables r.count
+  sum_product =
+      rw y.variables
+      (sum_second w.records.variables w.records.base kind a b w.records.count o o' (made t r) y.makes x.joined e able.ready.table
+      (held_below able x.a inside.1 ea) (held_below able x.b inside.2 eb))
+
+-- The product has been made.
 module _ {w : Worksheet} {o : List ℕ} (x : Ask) (able : Able (cond x.joined 2 1) w o) (inside : Inside x.to × Inside x.a × Inside x.b)
     {a b : ℕ} (ea : a ≡ cells_in w.cells x.a) (eb : b ≡ cells_in w.cells x.b) {r : Records} {o' : List ℕ} {t : Reference}
     (y : Entered (make w.records.variables kind_and a b) w.records o r o' t) where
@@ -38,44 +63,22 @@ module _ {w : Worksheet} {o : List ℕ} (x : Ask) (able : Able (cond x.joined 2 
         variables = rw same entered.variables;
       }
 
-  module _ (e : x.joined ≡ true) where
-    -- Then there is room for the sum,
-    pub sum_usable : Usable r o'
-    sum_usable =
-        let room : Room w.records.variables w.records.base r.count o' =
-        sum_room w.records.variables w.records.base kind_and a b w.records.count o o' (made t r) y.makes x.joined e able.ready.table
-        (held_below able x.a inside.1 ea) (held_below able x.b inside.2 eb) in
-        record { room = rw (y.variables, y.base) room; noted = y.noted }
+  -- Where it is joined, its sum is the outcome;
+  pub carried_joined : x.joined ≡ true → {was : ℕ} → was ≡ cells_in w.cells x.to → {q : Records} {o″ : List ℕ} {s : Reference}
+      → Entered (make r.variables kind_or was t.number) r o' q o″ s
+      → {w' : Worksheet} → w'.cells ≡ set w.cells (place_of x.to) s.number → w'.records ≡ q → Carried (x ∷ []) w o w' o″
+  carried_joined e {was} ew {q} {o″} {s} z {w'} put same =
+      let makes : Makes (make w.records.variables kind_or was t.number) w.records.base r.count o' o″ (made s q) = rw (y.variables, y.base) at z.makes in
+      let entered : Entered (product w.records.variables x.joined was a b) w.records o q o″ s =
+      record {
+        makes = makes_joined w.records.base w.records.count o o' o″ (made t r) (made s q) w.records.variables was a b x.joined e y.makes makes;
+        noted = z.noted;
+        base = z.base ∙ y.base;
+        variables = z.variables ∙ y.variables;
+      } in
+      asked_carried was ew q o″ s entered w' put same
 
-    -- whose arguments are there,
-    pub sum_was : {was : ℕ} → was ≡ cells_in w.cells x.to → was < formula r.variables r.count
-    sum_was {was} ew =
-        rw y.variables
-        (sum_first w.records.variables w.records.base kind_and a b w.records.count o o' (made t r) y.makes x.joined e able.ready.table
-        (held_below able x.a inside.1 ea) (held_below able x.b inside.2 eb) was (held_below able x.to inside.0 ew))
-
-    pub sum_product : t.number < formula r.variables r.count
-    sum_product =
-        rw y.variables
-        (sum_second w.records.variables w.records.base kind_and a b w.records.count o o' (made t r) y.makes x.joined e able.ready.table
-        (held_below able x.a inside.1 ea) (held_below able x.b inside.2 eb))
-
-    -- and which is the outcome.
-    pub carried_joined : {was : ℕ} → was ≡ cells_in w.cells x.to → {q : Records} {o″ : List ℕ} {s : Reference}
-        → Entered (make r.variables kind_or was t.number) r o' q o″ s
-        → {w' : Worksheet} → w'.cells ≡ set w.cells (place_of x.to) s.number → w'.records ≡ q → Carried (x ∷ []) w o w' o″
-    carried_joined {was} ew {q} {o″} {s} z {w'} put same =
-        let makes : Makes (make w.records.variables kind_or was t.number) w.records.base r.count o' o″ (made s q) = rw (y.variables, y.base) at z.makes in
-        let entered : Entered (product w.records.variables x.joined was a b) w.records o q o″ s =
-        record {
-          makes = makes_joined w.records.base w.records.count o o' o″ (made t r) (made s q) w.records.variables was a b x.joined e y.makes makes;
-          noted = z.noted;
-          base = z.base ∙ y.base;
-          variables = z.variables ∙ y.variables;
-        } in
-        asked_carried was ew q o″ s entered w' put same
-
-  -- The product alone is the outcome.
+  -- and else the product alone.
   pub carried_alone : x.joined ≡ false → {w' : Worksheet} → w'.cells ≡ set w.cells (place_of x.to) t.number → w'.records ≡ r
       → Carried (x ∷ []) w o w' o'
   carried_alone e {w'} put same =

@@ -36,3 +36,19 @@ decimal_most (suc (suc k)) n h l =
     (λ t. rw (decimal_one n (ltb-true n 10 t)) (omega arith))
     (λ t. rw (decimal_more n (ltb-false n 10 t), length-append (decimal (n / 10)) (digit (n % 10)))
     (omega (arith, decimal_most (suc k) (n / 10) (omega (arith, pow-succ' 10 (suc k))) (omega arith))))
+
+-- A smaller number has no more digits. So many turns are allowed.
+decimal_grows : (turns m n : ℕ) → n ≤ turns → m ≤ n → length (decimal m) ≤ length (decimal n)
+decimal_grows zero m n h l = rw (decimal_one m (omega arith), decimal_one n (omega arith)) (omega arith)
+decimal_grows (suc turns) m n h l =
+    by_test (ltb n 10)
+    (λ t. let i = ltb-true n 10 t in rw (decimal_one m (omega arith), decimal_one n i) (omega arith))
+    (λ t. let i = ltb-false n 10 t in
+    let more = length-append (decimal (n / 10)) (digit (n % 10)) in
+    by_test (ltb m 10)
+    (λ q. rw (decimal_one m (ltb-true m 10 q), decimal_more n i, more) (omega arith))
+    (λ q. rw (decimal_more m (ltb-false m 10 q), length-append (decimal (m / 10)) (digit (m % 10)), decimal_more n i, more)
+    (omega (arith, decimal_grows turns (m / 10) (n / 10) (omega arith) (omega arith)))))
+
+pub decimal_shorter : (m n : ℕ) → m ≤ n → length (decimal m) ≤ length (decimal n)
+decimal_shorter m n = decimal_grows n m n (omega arith)
