@@ -19,7 +19,7 @@ use form::Fault;
 use network::{SIDE, Switch};
 use values::PLACES;
 
-// An accepted file of this edition, and the values of its references under a setting. They are lent, since an array of its own would be made in one place and copied to another.
+// An accepted file of this edition, and the values of its references under a setting. They are lent, since an array of the struct's own would be made in one place and copied to another.
 #[derive(Clone, Copy)]
 struct Valued<'a> {
     net: Accepted<'a>,

@@ -10,7 +10,7 @@ ghost use Rattle.form.specs.References.{variable};
 use std::error::Error;
 use std::fmt;
 
-// The kind of and. Kinds stay numbers: `records::make` promises its outcome for every 16-bit kind, and the theorems of `formula` are over numbers.
+// The kind of and. Kinds stay numbers: `Records::make` promises its outcome for every 16-bit kind, and the theorems of `formula` are over numbers.
 pub const AND: u16 = 1;
 
 // The kind of or.

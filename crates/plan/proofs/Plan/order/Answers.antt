@@ -15,7 +15,7 @@ loop-k-preserved c =
     let k = c.loop-k.k in
     let order = c.loop-k.order in
     let x = (get_or c.args.self.now.steps k none_taken).vertex in (
-      length-set order k x ∙ c.loop-k.invariant.0,
+      length-set order k _ ∙ c.loop-k.invariant.0,
       λ i h. by_same i k
           (λ e. rw e (get_or-set_same order k x 0 (omega (arith, c.loop-k.invariant.0, c.loop-k-test.true))))
           (λ d. get_or-set_other order k i x 0 d ∙ c.loop-k.invariant.1 i (omega (arith, h, d))),
